@@ -1,0 +1,203 @@
+ghost use Rattle.std.specs.Prelude.{◌≡◌, ◌<◌, ◌≤◌, ◌↔◌, ◌^◌, ◌-◌, IsTrue, IfSome, MatchOption};
+ghost use Rattle.std.specs.FinSet as set;
+ghost use Rattle.vir_altset.specs.Keep.{IsKept};
+ghost use Rattle.vir_altset.specs.Sets.{all, IsBounded, IsLast, IsNext};
+
+use crate::LIMIT;
+use std::marker::Model;
+
+/// The number of words of bits. With 64 bits each they reach to [`LIMIT`].
+const WORDS: usize = 2;
+
+/// A set of alternatives.
+#[derive(Clone, Copy)]
+pub struct AltSet {
+    // Bit i of word k is set where 64 k + i + 1 is a member.
+    words: [u64; WORDS],
+}
+
+impl Model for AltSet {
+    ghost use Rattle.std.specs.Prelude.{◌*◌};
+    ghost use Rattle.std.specs.Coded.{coded_ℕ};
+    ghost use Rattle.std.specs.FinSet as set;
+    ghost use Rattle.std.proofs.Common.{ap};
+    ghost use Rattle.vir_altset.specs.Sets.{Set};
+    ghost use Rattle.vir_altset.specs.ByTest.{of_test};
+    ghost use Rattle.vir_altset.specs.Words.{word_bit, word_count, to_words, AreWords, words_back};
+
+    ghost Value = { Set };
+
+    ghost coded = { set.code coded_ℕ };
+
+    ghost view = { λ a. of_test (64 * word_count) (word_bit a.words) };
+
+    ghost invariant = { λ a. AreWords word_count a.words };
+
+    ghost inverse = { λ s. record { words = to_words word_count 0 s } };
+
+    ghost inverse_ok = { λ a h. ap (λ w. record { words = w }) (words_back word_count a.words h) };
+}
+
+impl AltSet {
+    /// The set with no members.
+    pub fn empty() -> AltSet
+        ensures { result ≡ set.empty }
+    {
+        AltSet { words: [0; WORDS] }
+    }
+
+    /// The numbers 1 to `m`.
+    pub fn all(m: u16) -> AltSet
+        requires { m ≤ LIMIT }
+        ensures { result ≡ all m }
+    {
+        let mut words = [0; WORDS];
+        let mut left = m;
+        for i in 0..WORDS {
+            let size = left.min(64);
+            words[i] = low_bits(size);
+            left -= size;
+        }
+        AltSet { words }
+    }
+
+    pub fn has(&self, x: u16) -> bool
+        requires alternative { 1 ≤ x }
+        requires limit { x ≤ LIMIT }
+        ensures { result ≡ set.contains self.now x }
+    {
+        let i = usize::from(x) - 1;
+        (self.words[i / 64] >> (i % 64)) & 1 == 1
+    }
+
+    pub fn with(&self, x: u16) -> AltSet
+        requires alternative { 1 ≤ x }
+        requires limit { x ≤ LIMIT }
+        ensures { result ≡ set.insert self.now x }
+    {
+        let mut larger = *self;
+        larger.put(x);
+        larger
+    }
+
+    pub fn put(&mut self, x: u16)
+        requires alternative { 1 ≤ x }
+        requires limit { x ≤ LIMIT }
+        ensures { self.new ≡ set.insert self.old x }
+    {
+        let i = usize::from(x) - 1;
+        self.words[i / 64] |= 1u64 << (i % 64);
+    }
+
+    pub fn without(&self, x: u16) -> AltSet
+        requires alternative { 1 ≤ x }
+        requires limit { x ≤ LIMIT }
+        ensures { result ≡ set.remove self.now x }
+    {
+        let i = usize::from(x) - 1;
+        let mut words = self.words;
+        words[i / 64] &= !(1u64 << (i % 64));
+        AltSet { words }
+    }
+
+    pub fn union(&self, other: &AltSet) -> AltSet
+        ensures { result ≡ set.union self.now other.now }
+    {
+        let mut words = self.words;
+        for i in 0..WORDS {
+            words[i] |= other.words[i];
+        }
+        AltSet { words }
+    }
+
+    pub fn inter(&self, other: &AltSet) -> AltSet
+        ensures { result ≡ set.intersection self.now other.now }
+    {
+        let mut words = self.words;
+        for i in 0..WORDS {
+            words[i] &= other.words[i];
+        }
+        AltSet { words }
+    }
+
+    pub fn minus(&self, other: &AltSet) -> AltSet
+        ensures { result ≡ set.difference self.now other.now }
+    {
+        let mut words = self.words;
+        for i in 0..WORDS {
+            words[i] &= !other.words[i];
+        }
+        AltSet { words }
+    }
+
+    pub fn equals(&self, other: &AltSet) -> bool
+        ensures { IsTrue result ↔ (self.now ≡ other.now) }
+    {
+        self.words == other.words
+    }
+
+    pub fn count(&self) -> u16
+        ensures { result ≡ set.len self.now }
+    {
+        let mut n = 0;
+        for i in 0..WORDS {
+            n += self.words[i].count_ones() as u16;
+        }
+        n
+    }
+
+    pub fn first_after(&self, x: u16) -> Option<u16>
+        requires { x ≤ LIMIT }
+        ensures least { MatchOption result (IsLast self.now x) (λ y. IsNext self.now x y) }
+        ensures limit { IfSome result (λ y. y ≤ LIMIT) }
+    {
+        let words = &self.words;
+        if x == LIMIT {
+            return None;
+        }
+        let at = usize::from(x) / 64;
+        let word = words[at] & (u64::MAX << (x % 64));
+        if word != 0 {
+            return Some(at as u16 * 64 + word.trailing_zeros() as u16 + 1);
+        }
+        for i in at + 1..WORDS {
+            let word = words[i];
+            if word != 0 {
+                return Some(i as u16 * 64 + word.trailing_zeros() as u16 + 1);
+            }
+        }
+        None
+    }
+
+    pub fn bounded(&self)
+        ensures { IsBounded self.now }
+    {
+        let _ = &self.words;
+    }
+
+    pub fn keep<F: Fn(u16) -> bool>(&self, test: F) -> AltSet
+        requires { F.IsAlwaysCallable test }
+        ensures { IsKept self.now result (F.post test) }
+    {
+        self.bounded();
+        let mut kept = AltSet::empty();
+        for x in 1..LIMIT + 1 {
+            if self.has(x) && test(x) {
+                kept.put(x);
+            }
+        }
+        kept
+    }
+}
+
+/// The word whose lowest `size` bits are set.
+fn low_bits(size: u16) -> u64
+    requires { size ≤ 64 }
+    ensures { result ≡ 2 ^ size - 1 }
+{
+    if size == 64 {
+        u64::MAX
+    } else {
+        (1u64 << size) - 1
+    }
+}

@@ -1,0 +1,21 @@
+//! Ballots and profiles: who prefers what, and how many of them.
+//!
+//! A profile is a list of lines, and a line is a weight with an order of all alternatives, the most
+//! preferred first. The contract of this layer: a `Profile` is its number of alternatives, from 1 to
+//! `LIMIT`, and its list of lines, of which there are at most 1,000,000; each order lists each
+//! alternative once, and the weights add up to at most 2^64 - 1. `add` is the only way in, and it
+//! names the first fault of a line that it refuses. Here stand also the definitions that all layers
+//! above share: restriction, the weights of pairs and of first places, and the Condorcet winner
+//! (`specs/`). It stands on `vir_altset`, whose sets and splits it passes on.
+#![tactic(auto)]
+
+mod ballot;
+mod profile;
+mod refused;
+#[cfg(test)]
+mod tests;
+
+pub use ballot::{Ballot, Entry};
+pub use profile::{LINES_LIMIT, Profile};
+pub use refused::{AddFault, Refused};
+pub use vir_altset::{AltSet, LIMIT, Split};

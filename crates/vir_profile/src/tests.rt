@@ -1,0 +1,47 @@
+// Lines that a profile takes, and lines that it hands back.
+use crate::{AddFault, Ballot, Entry, Profile};
+use std::alloc::{AllocError, Global};
+
+fn line(alloc: Global, weight: u64, order: &[u16]) -> Result<Entry, AllocError> {
+    let order = Ballot::of(Vec::from_slice(alloc, order)?);
+    Ok(Entry { weight, order })
+}
+
+#[test]
+fn lines_are_added_or_handed_back(rt: HostRuntime) -> Result<(), AllocError> {
+    let alloc = rt.alloc();
+    let mut profile = Profile::new(alloc, 3);
+    assert!(rt; profile.add(line(alloc, 4, &[1, 2, 3])?).is_ok());
+    assert!(rt; profile.add(line(alloc, u64::MAX - 4, &[3, 2, 1])?).is_ok());
+    let refused: [(u64, &[u16], AddFault); 9] = [
+        (1, &[1, 2], AddFault::Short),
+        (1, &[], AddFault::Short),
+        (1, &[0, 1, 2], AddFault::OutOfRange),
+        (1, &[1, 4, 2], AddFault::OutOfRange),
+        (1, &[1, 2, 2], AddFault::Repeated),
+        (1, &[1, 1, 4], AddFault::Repeated),
+        (1, &[4, 1, 1], AddFault::OutOfRange),
+        (1, &[1, 2, 3, 1], AddFault::Repeated),
+        (1, &[2, 1, 3], AddFault::TooManyVoters),
+    ];
+    for (weight, order, fault) in refused {
+        let Err(refused) = profile.add(line(alloc, weight, order)?) else {
+            panic!(rt; "added");
+        };
+        assert_eq!(rt; refused.fault, fault);
+        assert_eq!(rt; refused.entry.weight, weight);
+        assert_eq!(rt; refused.entry.order.len(), order.len());
+        for (i, x) in order.iter().enumerate() {
+            assert!(rt; i < refused.entry.order.len());
+            assert_eq!(rt; refused.entry.order.at(i), *x);
+        }
+    }
+    assert!(rt; profile.add(line(alloc, 0, &[2, 1, 3])?).is_ok());
+    assert_eq!(rt; profile.lines(), 3);
+    assert_eq!(rt; profile.entries().len(), 3);
+    assert_eq!(rt; profile.total(), u64::MAX);
+    assert_eq!(rt; profile.alternatives(), 3);
+    assert_eq!(rt; profile.line(0).map(|first| first.weight), Some(4));
+    assert!(rt; profile.line(3).is_none());
+    Ok(())
+}
