@@ -1,8 +1,11 @@
+pub mod AllLemmas
+pub mod CountLemmas
+pub mod JoinedWordsLemmas
+pub mod KeepLaws
+pub mod KeepLemmas
+pub mod NextLemmas
+pub mod OneWordLemmas
+pub mod PassingLemmas
 pub mod SizeLaws
 pub mod SplitLaws
-pub mod TestLemmas
-pub mod WordLemmas
-pub mod AllLemmas
-pub mod NextLemmas
-pub mod CountLemmas
-pub mod KeepLemmas
+pub mod MemberLaws

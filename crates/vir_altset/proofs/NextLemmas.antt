@@ -1,101 +1,101 @@
--- The next member, by words.
+-- The next member of a set, looked for word by word.
 use Rattle.std.proofs.Common.{◌≡◌, ◌≢◌, ℕ, ◌+◌, ◌-◌, ◌*◌, ◌/◌, ◌%◌, ◌^◌, ◌<◌, ◌≤◌, true, false, List, get_or, min, nat_eq, nat_le, refl, sym, ap, ◌∙◌, arith, w64, bit_and}
 use Rattle.std.specs.Int.{bit_at, trailing_zeros}
-use Rattle.std.proofs.lemmas.Nat.{and_le_l}
 use Rattle.std.proofs.lemmas.Nat.Bits.{bit_at_and, bit_at-lt, bit_at-zero, bit_at_mask_inside, bit_at_mask_below, bit_at-trailing_zeros}
 use Rattle.std.proofs.lemmas.Bool.Decides.{nat_tests}
 use Rattle.std.specs.FinSet as set
+use Rattle.vir_altset.specs.SetLaws.{contains-retain_all}
 use Rattle.vir_altset.specs.Sets.{IsLast, IsNext}
-use Rattle.vir_altset.specs.ByTest.{in_test, above_out}
-use Rattle.vir_altset.specs.Words.{is_set, word_bit, word_bit-at}
-use Rattle.vir_altset.proofs.WordLemmas.{view}
+use Rattle.vir_altset.specs.Words.{is_set, has_bit, set_of}
+use Rattle.vir_altset.specs.WordsBack.{has_bit-at}
+use Rattle.vir_altset.proofs.PassingLemmas.{contains-passing-above}
 
-module _ (n : ℕ) where
-  -- no bit after x up to m
-  abbrev pub Clear : List ℕ → ℕ → ℕ → Type 0
-  Clear ws x m = (z : ℕ) → x < z → z ≤ m → word_bit ws z ≡ false
+-- no number above x and up to m has its bit set
+abbrev pub IsClear : List ℕ → ℕ → ℕ → Type 0
+IsClear words x m = (y : ℕ) → x < y → y ≤ m → has_bit words y ≡ false
 
-  bit_of : (ws : List ℕ) (j z : ℕ) → 64 * j < z → z ≤ 64 * j + 64 → word_bit ws z ≡ is_set (get_or ws j 0) (z - 1 - 64 * j)
-  bit_of ws j z a b = ap (word_bit ws) (omega arith) ∙ word_bit-at ws j (z - 1 - 64 * j) (omega arith)
+has_bit-in_word : (words : List ℕ) (k y : ℕ) → 64 * k < y → y ≤ 64 * k + 64 → has_bit words y ≡ is_set (get_or words k 0) (y - 1 - 64 * k)
+has_bit-in_word words k y low high = ap (has_bit words) (omega arith) ∙ has_bit-at words k (y - 1 - 64 * k) (omega arith)
 
-  pub clear_word : (ws : List ℕ) (x j k : ℕ) → Clear ws x (64 * j + k) → k ≤ 64 → ((i : ℕ) → k ≤ i → i < 64 → is_set (get_or ws j 0) i ≡ false) → Clear ws x (64 * (j + 1))
-  clear_word ws x j k c f zeros z a b = elim (nat_le z (64 * j + k)) as (λ t. nat_le z (64 * j + k) ≡ t → word_bit ws z ≡ false) [
-    | true ↦ λ t. let le : z ≤ 64 * j + k = grind (arith, nat_tests) in c z a le
-    | false ↦ λ t. let lt : 64 * j + k < z = grind (arith, nat_tests) in bit_of ws j z (omega arith) (omega arith) ∙ zeros (z - 1 - 64 * j) (omega arith) (omega arith)
-  ] refl
+-- clear to the end of a word of which the bits from i on are zero
+clear_word : (words : List ℕ) (x k i : ℕ) → IsClear words x (64 * k + i) → i ≤ 64 → ((j : ℕ) → i ≤ j → j < 64 → is_set (get_or words k 0) j ≡ false) → IsClear words x (64 * (k + 1))
+clear_word words x k i clear inside zeros y above upto = elim (nat_le y (64 * k + i)) as (λ t. nat_le y (64 * k + i) ≡ t → has_bit words y ≡ false) [
+  | true ↦ λ t. let le : y ≤ 64 * k + i = grind (arith, nat_tests) in clear y above le
+  | false ↦ λ t. let lt : 64 * k + i < y = grind (arith, nat_tests) in has_bit-in_word words k y (omega arith) (omega arith) ∙ zeros (y - 1 - 64 * k) (omega arith) (omega arith)
+] refl
 
-  pub next_bit : (ws : List ℕ) (x j k t : ℕ) → Clear ws x (64 * j + k) → x ≤ 64 * j + k → k ≤ t → t < 64 → j < n → is_set (get_or ws j 0) t ≡ true
-      → ((i : ℕ) → k ≤ i → i < t → is_set (get_or ws j 0) i ≡ false) → IsNext (view n ws) x (j * 64 + t + 1)
-  next_bit ws x j k t c low f h l one zeros = record {
-    above = omega arith;
-    member = in_test (64 * n) (word_bit ws) (j * 64 + t + 1) (omega arith) (omega arith) ∙ bit_of ws j (j * 64 + t + 1) (omega arith) (omega arith) ∙ ap (is_set (get_or ws j 0)) (omega arith) ∙ one;
-    least = λ z a b. in_test (64 * n) (word_bit ws) z (omega arith) (omega arith) ∙ under z a b;
-  }
+-- the first bit that is set is that of the next member
+next_bit : (n : ℕ) (words : List ℕ) (x k i j : ℕ) → IsClear words x (64 * k + i) → x ≤ 64 * k + i → i ≤ j → j < 64 → k < n → is_set (get_or words k 0) j ≡ true
+    → ((l : ℕ) → i ≤ l → l < j → is_set (get_or words k 0) l ≡ false) → IsNext (set_of n words) x (k * 64 + j + 1)
+next_bit n words x k i j clear low from inside within one zeros = record {
+  above = omega arith;
+  member = contains-retain_all (64 * n) (has_bit words) (k * 64 + j + 1) (omega arith) (omega arith) ∙ has_bit-in_word words k (k * 64 + j + 1) (omega arith) (omega arith) ∙ ap (is_set (get_or words k 0)) (omega arith) ∙ one;
+  least = λ y a b. contains-retain_all (64 * n) (has_bit words) y (omega arith) (omega arith) ∙ under y a b;
+}
+  where
+    under : (y : ℕ) → x < y → y < k * 64 + j + 1 → has_bit words y ≡ false
+    under y a b = elim (nat_le y (64 * k + i)) as (λ s. nat_le y (64 * k + i) ≡ s → has_bit words y ≡ false) [
+      | true ↦ λ s. let le : y ≤ 64 * k + i = grind (arith, nat_tests) in clear y a le
+      | false ↦ λ s. let lt : 64 * k + i < y = grind (arith, nat_tests) in has_bit-in_word words k y (omega arith) (omega arith) ∙ zeros (y - 1 - 64 * k) (omega arith) (omega arith)
+    ] refl
+
+-- where all words are clear above x, no member is
+pub last_of_clear : (n : ℕ) (words : List ℕ) (x : ℕ) → IsClear words x (64 * n) → IsLast (set_of n words) x
+last_of_clear n words x clear y above = elim (nat_le y (64 * n)) as (λ t. nat_le y (64 * n) ≡ t → set.contains (set_of n words) y ≡ false) [
+  | true ↦ λ t. let le : y ≤ 64 * n = grind (arith, nat_tests) in contains-retain_all (64 * n) (has_bit words) y (omega arith) le ∙ clear y above le
+  | false ↦ λ t. let lt : 64 * n < y = grind (arith, nat_tests) in contains-passing-above (64 * n) (has_bit words) y lt
+] refl
+
+-- a word of which only the bits from i on are kept
+module _ (word i : ℕ) (inside : i < 64) where
+  masked_above : (j : ℕ) → i ≤ j → j < 64 → is_set (bit_and word (2 ^ 64 - 2 ^ i)) j ≡ is_set word j
+  masked_above j from upto = ap (λ d. nat_eq d 1) (bit_at_and word (2 ^ 64 - 2 ^ i) j ∙ ap (min (bit_at word j)) (bit_at_mask_inside i 64 j from upto) ∙ with_one (bit_at word j) (bit_at-lt word j))
     where
-      under : (z : ℕ) → x < z → z < j * 64 + t + 1 → word_bit ws z ≡ false
-      under z a b = elim (nat_le z (64 * j + k)) as (λ s. nat_le z (64 * j + k) ≡ s → word_bit ws z ≡ false) [
-        | true ↦ λ s. let le : z ≤ 64 * j + k = grind (arith, nat_tests) in c z a le
-        | false ↦ λ s. let lt : 64 * j + k < z = grind (arith, nat_tests) in bit_of ws j z (omega arith) (omega arith) ∙ zeros (z - 1 - 64 * j) (omega arith) (omega arith)
-      ] refl
+      with_one : (d : ℕ) → d < 2 → min d 1 ≡ d
+      with_one d h = omega arith
 
-  pub clear_all : (ws : List ℕ) (x : ℕ) → Clear ws x (64 * n) → IsLast (view n ws) x
-  clear_all ws x c z a = elim (nat_le z (64 * n)) as (λ t. nat_le z (64 * n) ≡ t → set.contains (view n ws) z ≡ false) [
-    | true ↦ λ t. let le : z ≤ (64 * n) = grind (arith, nat_tests) in in_test (64 * n) (word_bit ws) z (omega arith) le ∙ c z a le
-    | false ↦ λ t. let lt : (64 * n) < z = grind (arith, nat_tests) in above_out (64 * n) (word_bit ws) z lt
-  ] refl
-
-  -- a word of which only the bits from k on are kept
-  module _ (w k : ℕ) (h : k < 64) where
-    masked : ℕ
-    masked = bit_and w (2 ^ 64 - 2 ^ k)
-
-    pub kept : (i : ℕ) → k ≤ i → i < 64 → is_set (bit_and w (2 ^ 64 - 2 ^ k)) i ≡ is_set w i
-    kept i a b = ap (λ d. nat_eq d 1) (bit_at_and w (2 ^ 64 - 2 ^ k) i ∙ ap (min (bit_at w i)) (bit_at_mask_inside k 64 i a b) ∙ with_one (bit_at w i) (bit_at-lt w i))
-      where
-        with_one : (d : ℕ) → d < 2 → min d 1 ≡ d
-        with_one d h = omega arith
-
-    pub cut : (i : ℕ) → i < k → is_set (bit_and w (2 ^ 64 - 2 ^ k)) i ≡ false
-    cut i a = ap (λ d. nat_eq d 1) (bit_at_and w (2 ^ 64 - 2 ^ k) i ∙ ap (min (bit_at w i)) (bit_at_mask_below k 64 i a) ∙ with_zero (bit_at w i))
-      where
-        with_zero : (d : ℕ) → min d 0 ≡ 0
-        with_zero d = omega arith
-
-  pub zero_bits : (w i : ℕ) → w ≡ 0 → is_set w i ≡ false
-  zero_bits w i e = ap (λ v. is_set v i) e ∙ ap (λ d. nat_eq d 1) (bit_at-zero i)
-
-  -- the lowest bit of a word
-  pub record IsLowest (w t : ℕ) : Type 0 where
-    pub inside : t < 64
-    pub one : is_set w t ≡ true
-    pub zeros : (i : ℕ) → i < t → is_set w i ≡ false
-
-  pub lowest : (w : ℕ) → w ≢ 0 → w < 2 ^ 64 → IsLowest w (trailing_zeros w64 w)
-  lowest w h f = let facts = bit_at-trailing_zeros w64 w (omega arith) f in
-      record { inside = facts.0; one = ap (λ d. nat_eq d 1) facts.1; zeros = λ i l. ap (λ d. nat_eq d 1) (facts.2 i l) }
-
-  pub first_word : (ws : List ℕ) (x t : ℕ) → x < (64 * n) → IsLowest (bit_and (get_or ws (x / 64) 0) (2 ^ 64 - 2 ^ (x % 64))) t → IsNext (view n ws) x (x / 64 * 64 + t + 1)
-  first_word ws x t h l =
-      next_bit ws x (x / 64) (x % 64) t (λ z a b. absurd (omega arith)) (omega arith) reached l.inside (omega arith)
-      (sym (kept (get_or ws (x / 64) 0) (x % 64) (omega arith) t reached l.inside) ∙ l.one)
-      (λ i a b. let in_word = l.inside in sym (kept (get_or ws (x / 64) 0) (x % 64) (omega arith) i a (omega arith)) ∙ l.zeros i b)
+  masked_below : (j : ℕ) → j < i → is_set (bit_and word (2 ^ 64 - 2 ^ i)) j ≡ false
+  masked_below j below = ap (λ d. nat_eq d 1) (bit_at_and word (2 ^ 64 - 2 ^ i) j ∙ ap (min (bit_at word j)) (bit_at_mask_below i 64 j below) ∙ with_zero (bit_at word j))
     where
-      reached : x % 64 ≤ t
-      reached = elim (nat_le (x % 64) t) as (λ s. nat_le (x % 64) t ≡ s → x % 64 ≤ t) [
-        | true ↦ λ s. grind (arith, nat_tests)
-        | false ↦ λ s. let lt : t < x % 64 = grind (arith, nat_tests) in cc (cut (get_or ws (x / 64) 0) (x % 64) (omega arith) t lt, l.one)
-      ] refl
+      with_zero : (d : ℕ) → min d 0 ≡ 0
+      with_zero d = omega arith
 
-  pub first_clear : (ws : List ℕ) (x : ℕ) → x < (64 * n) → bit_and (get_or ws (x / 64) 0) (2 ^ 64 - 2 ^ (x % 64)) ≡ 0 → Clear ws x (64 * (x / 64 + 1))
-  first_clear ws x h e =
-      clear_word ws x (x / 64) (x % 64) (λ z a b. absurd (omega arith)) (omega arith)
-      (λ i a b. sym (kept (get_or ws (x / 64) 0) (x % 64) (omega arith) i a b) ∙ zero_bits _ i e)
+is_set-0 : (word i : ℕ) → word ≡ 0 → is_set word i ≡ false
+is_set-0 word i e = ap (λ w. is_set w i) e ∙ ap (λ d. nat_eq d 1) (bit_at-zero i)
 
-  pub later_word : (ws : List ℕ) (x j t : ℕ) → Clear ws x (64 * j) → x ≤ 64 * j → j < n → IsLowest (get_or ws j 0) t → IsNext (view n ws) x (j * 64 + t + 1)
-  later_word ws x j t c low h l = next_bit ws x j 0 t (λ z a b. c z a (omega arith)) (omega arith) (omega arith) l.inside h l.one (λ i a b. l.zeros i b)
+-- bit i is the lowest bit of a word that is set
+pub record IsLowest (word i : ℕ) : Type 0 where
+  pub inside : i < 64
+  pub one : is_set word i ≡ true
+  pub zeros : (j : ℕ) → j < i → is_set word j ≡ false
 
-  pub later_clear : (ws : List ℕ) (x j : ℕ) → Clear ws x (64 * j) → get_or ws j 0 ≡ 0 → Clear ws x (64 * (j + 1))
-  later_clear ws x j c e = clear_word ws x j 0 (λ z a b. c z a (omega arith)) (omega arith) (λ i a b. zero_bits _ i e)
+pub lowest : (word : ℕ) → word ≢ 0 → word < 2 ^ 64 → IsLowest word (trailing_zeros w64 word)
+lowest word some fits = let facts = bit_at-trailing_zeros w64 word (omega arith) fits in
+    record { inside = facts.0; one = ap (λ d. nat_eq d 1) facts.1; zeros = λ j l. ap (λ d. nat_eq d 1) (facts.2 j l) }
 
-  pub and_lt : (a b k : ℕ) → a < k → bit_and a b < k
-  and_lt a b k h = omega (arith, and_le_l a b)
+-- a member in the word of x
+pub next_in_first_word : (n : ℕ) (words : List ℕ) (x i : ℕ) → x < 64 * n → IsLowest (bit_and (get_or words (x / 64) 0) (2 ^ 64 - 2 ^ (x % 64))) i → IsNext (set_of n words) x (x / 64 * 64 + i + 1)
+next_in_first_word n words x i within low =
+    next_bit n words x (x / 64) (x % 64) i (λ y a b. absurd (omega arith)) (omega arith) reached low.inside (omega arith)
+    (sym (masked_above (get_or words (x / 64) 0) (x % 64) (omega arith) i reached low.inside) ∙ low.one)
+    (λ j a b. let in_word = low.inside in sym (masked_above (get_or words (x / 64) 0) (x % 64) (omega arith) j a (omega arith)) ∙ low.zeros j b)
+  where
+    reached : x % 64 ≤ i
+    reached = elim (nat_le (x % 64) i) as (λ s. nat_le (x % 64) i ≡ s → x % 64 ≤ i) [
+      | true ↦ λ s. grind (arith, nat_tests)
+      | false ↦ λ s. let lt : i < x % 64 = grind (arith, nat_tests) in cc (masked_below (get_or words (x / 64) 0) (x % 64) (omega arith) i lt, low.one)
+    ] refl
+
+-- no member in the word of x
+pub clear_first_word : (words : List ℕ) (x : ℕ) → bit_and (get_or words (x / 64) 0) (2 ^ 64 - 2 ^ (x % 64)) ≡ 0 → IsClear words x (64 * (x / 64 + 1))
+clear_first_word words x none =
+    clear_word words x (x / 64) (x % 64) (λ y a b. absurd (omega arith)) (omega arith)
+    (λ j a b. sym (masked_above (get_or words (x / 64) 0) (x % 64) (omega arith) j a b) ∙ is_set-0 _ j none)
+
+-- a member in a later word
+pub next_in_later_word : (n : ℕ) (words : List ℕ) (x k i : ℕ) → IsClear words x (64 * k) → x ≤ 64 * k → k < n → IsLowest (get_or words k 0) i → IsNext (set_of n words) x (k * 64 + i + 1)
+next_in_later_word n words x k i clear low within is = next_bit n words x k 0 i (λ y a b. clear y a (omega arith)) (omega arith) (omega arith) is.inside within is.one (λ j a b. is.zeros j b)
+
+-- no member in a later word
+pub clear_later_word : (words : List ℕ) (x k : ℕ) → IsClear words x (64 * k) → get_or words k 0 ≡ 0 → IsClear words x (64 * (k + 1))
+clear_later_word words x k clear none = clear_word words x k 0 (λ y a b. clear y a (omega arith)) (omega arith) (λ j a b. is_set-0 _ j none)

@@ -1,6 +1,7 @@
-pub mod Sets
-pub mod SetLaws
 pub mod Keep
+pub mod SetLaws
+pub mod Sets
 pub mod Splits
-pub mod ByTest
 pub mod Words
+pub mod WordsBack
+pub mod Members

@@ -1,5 +1,5 @@
 -- The laws of finite sets at sets of numbers, where two numbers are one member just where they are equal.
-use Rattle.std.specs.Prelude.{◌≡◌, ℕ, zero, suc, Bool, false, not, ◌&&◌, ◌||◌, List, nat_eq, nat_lt, nat_le}
+use Rattle.std.specs.Prelude.{◌≡◌, ◌≢◌, ◌<◌, ◌≤◌, ℕ, zero, suc, Bool, true, false, not, ◌&&◌, ◌||◌, List, nat_eq, nat_lt, nat_le}
 use Rattle.std.specs.FinSet as set
 use Rattle.std.specs.FinSet.{nat_cmp-IsAntisymmetric}
 use Rattle.std.specs.Cmp.{nat_cmp_total, unsigned_tied}
@@ -43,6 +43,25 @@ pub contains-all : (m x : ℕ) → set.contains (all m) x ≡ (nat_lt 0 x && nat
 unfolding all
 contains-all zero x = contains-empty x ∙ none_up_to_0 x
 contains-all (suc m) x = contains-insert (all m) (suc m) x ∙ ap (λ b. nat_eq x (suc m) || b) (contains-all m x) ∙ one_more m x
+
+pub contains-insert-same : (a : Set) (x : ℕ) → set.contains (set.insert a x) x ≡ true
+contains-insert-same a x = grind (arith, nat_tests, contains-insert)
+
+pub contains-insert-other : (a : Set) (y x : ℕ) → x ≢ y → set.contains (set.insert a y) x ≡ set.contains a x
+contains-insert-other a y x apart = grind (arith, nat_tests, contains-insert)
+
+pub contains-remove-same : (a : Set) (x : ℕ) → set.contains (set.remove a x) x ≡ false
+contains-remove-same a x = grind (arith, nat_tests, contains-remove)
+
+pub contains-remove-other : (a : Set) (y x : ℕ) → x ≢ y → set.contains (set.remove a y) x ≡ set.contains a x
+contains-remove-other a y x apart = grind (arith, nat_tests, contains-remove)
+
+up_to : (m x : ℕ) (b : Bool) → 0 < x → x ≤ m → ((nat_lt 0 x && nat_le x m) && b) ≡ b
+up_to m x b positive within = grind (arith, nat_tests)
+
+-- of the numbers 1 to m, a test keeps those that it is true of
+pub contains-retain_all : (m : ℕ) (p : ℕ → Bool) (x : ℕ) → 0 < x → x ≤ m → set.contains (set.retain (all m) p) x ≡ p x
+contains-retain_all m p x positive within = contains-retain (all m) p x ∙ ap (λ b. b && p x) (contains-all m x) ∙ up_to m x (p x) positive within
 
 -- two sets with the same members are equal
 pub same_members : (a b : Set) → ((x : ℕ) → set.contains a x ≡ set.contains b x) → a ≡ b

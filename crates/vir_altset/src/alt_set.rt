@@ -9,7 +9,8 @@ use std::marker::Model;
 /// The number of words of bits. With 64 bits each they reach to [`LIMIT`].
 const WORDS: usize = 2;
 
-/// A set of alternatives.
+/// A set of alternatives, seen as a finite set of numbers. Each member is 1 to [`LIMIT`], as
+/// [`AltSet::bounded`] tells a caller.
 #[derive(Clone, Copy)]
 pub struct AltSet {
     // Bit i of word k is set where 64 k + i + 1 is a member.
@@ -17,25 +18,24 @@ pub struct AltSet {
 }
 
 impl Model for AltSet {
-    ghost use Rattle.std.specs.Prelude.{◌*◌};
     ghost use Rattle.std.specs.Coded.{coded_ℕ};
     ghost use Rattle.std.specs.FinSet as set;
     ghost use Rattle.std.proofs.Common.{ap};
     ghost use Rattle.vir_altset.specs.Sets.{Set};
-    ghost use Rattle.vir_altset.specs.ByTest.{of_test};
-    ghost use Rattle.vir_altset.specs.Words.{word_bit, word_count, to_words, AreWords, words_back};
+    ghost use Rattle.vir_altset.specs.Words.{set_of, word_count, words_of, AreWords};
+    ghost use Rattle.vir_altset.specs.WordsBack.{words_of-set_of};
 
     ghost Value = { Set };
 
     ghost coded = { set.code coded_ℕ };
 
-    ghost view = { λ a. of_test (64 * word_count) (word_bit a.words) };
+    ghost view = { λ a. set_of word_count a.words };
 
     ghost invariant = { λ a. AreWords word_count a.words };
 
-    ghost inverse = { λ s. record { words = to_words word_count 0 s } };
+    ghost inverse = { λ s. record { words = words_of word_count 0 s } };
 
-    ghost inverse_ok = { λ a h. ap (λ w. record { words = w }) (words_back word_count a.words h) };
+    ghost inverse_ok = { λ a h. ap (λ w. record { words = w }) (words_of-set_of word_count a.words h) };
 }
 
 impl AltSet {
@@ -61,18 +61,20 @@ impl AltSet {
         AltSet { words }
     }
 
+    /// Whether `x` is a member.
     pub fn has(&self, x: u16) -> bool
-        requires alternative { 1 ≤ x }
-        requires limit { x ≤ LIMIT }
+        requires at_least_one { 1 ≤ x }
+        requires within_limit { x ≤ LIMIT }
         ensures { result ≡ set.contains self.now x }
     {
         let i = usize::from(x) - 1;
         (self.words[i / 64] >> (i % 64)) & 1 == 1
     }
 
+    /// The set with `x` as a member too. To fill a set in a loop, use [`AltSet::put`].
     pub fn with(&self, x: u16) -> AltSet
-        requires alternative { 1 ≤ x }
-        requires limit { x ≤ LIMIT }
+        requires at_least_one { 1 ≤ x }
+        requires within_limit { x ≤ LIMIT }
         ensures { result ≡ set.insert self.now x }
     {
         let mut larger = *self;
@@ -80,18 +82,20 @@ impl AltSet {
         larger
     }
 
+    /// Makes `x` a member.
     pub fn put(&mut self, x: u16)
-        requires alternative { 1 ≤ x }
-        requires limit { x ≤ LIMIT }
+        requires at_least_one { 1 ≤ x }
+        requires within_limit { x ≤ LIMIT }
         ensures { self.new ≡ set.insert self.old x }
     {
         let i = usize::from(x) - 1;
         self.words[i / 64] |= 1u64 << (i % 64);
     }
 
+    /// The set without `x`.
     pub fn without(&self, x: u16) -> AltSet
-        requires alternative { 1 ≤ x }
-        requires limit { x ≤ LIMIT }
+        requires at_least_one { 1 ≤ x }
+        requires within_limit { x ≤ LIMIT }
         ensures { result ≡ set.remove self.now x }
     {
         let i = usize::from(x) - 1;
@@ -100,6 +104,7 @@ impl AltSet {
         AltSet { words }
     }
 
+    /// The members of either set.
     pub fn union(&self, other: &AltSet) -> AltSet
         ensures { result ≡ set.union self.now other.now }
     {
@@ -110,6 +115,7 @@ impl AltSet {
         AltSet { words }
     }
 
+    /// The members of both sets.
     pub fn inter(&self, other: &AltSet) -> AltSet
         ensures { result ≡ set.intersection self.now other.now }
     {
@@ -120,6 +126,7 @@ impl AltSet {
         AltSet { words }
     }
 
+    /// The members that are not in `other`.
     pub fn minus(&self, other: &AltSet) -> AltSet
         ensures { result ≡ set.difference self.now other.now }
     {
@@ -130,14 +137,17 @@ impl AltSet {
         AltSet { words }
     }
 
+    /// Whether the two sets have the same members.
     pub fn equals(&self, other: &AltSet) -> bool
         ensures { IsTrue result ↔ (self.now ≡ other.now) }
     {
         self.words == other.words
     }
 
+    /// The number of members.
     pub fn count(&self) -> u16
-        ensures { result ≡ set.len self.now }
+        ensures exact { result ≡ set.len self.now }
+        ensures within_limit { result ≤ LIMIT }
     {
         let mut n = 0;
         for i in 0..WORDS {
@@ -146,10 +156,12 @@ impl AltSet {
         n
     }
 
+    /// The least member above `x`, and `None` where there is none. With 0 for `x` it is the least
+    /// member of all, so the members are met in ascending order, each from the one before.
     pub fn first_after(&self, x: u16) -> Option<u16>
         requires { x ≤ LIMIT }
         ensures least { MatchOption result (IsLast self.now x) (λ y. IsNext self.now x y) }
-        ensures limit { IfSome result (λ y. y ≤ LIMIT) }
+        ensures within_limit { IfSome result (λ y. y ≤ LIMIT) }
     {
         let words = &self.words;
         if x == LIMIT {
@@ -169,12 +181,16 @@ impl AltSet {
         None
     }
 
+    /// Does nothing. Its clause tells a caller that each member is 1 to [`LIMIT`].
     pub fn bounded(&self)
         ensures { IsBounded self.now }
     {
         let _ = &self.words;
     }
 
+    /// The members that pass `test`, which is called once for each member, in ascending order.
+    /// Where `test` can only tell `p x` of `x`, the result is `set.retain self p`, by the lemma
+    /// `kept_is` of `proofs/KeepLaws.antt`.
     pub fn keep<F: Fn(u16) -> bool>(&self, test: F) -> AltSet
         requires { F.IsAlwaysCallable test }
         ensures { IsKept self.now result (F.post test) }

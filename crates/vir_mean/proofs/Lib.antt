@@ -1,0 +1,4 @@
+pub mod WeightLemmas
+pub mod MemberLemmas
+pub mod WinnerLemmas
+pub mod MeaningLaws
