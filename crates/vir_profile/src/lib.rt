@@ -10,12 +10,17 @@
 #![tactic(auto)]
 
 mod ballot;
+mod laws;
 mod profile;
 mod refused;
 #[cfg(test)]
 mod tests;
 
 pub use ballot::{Ballot, Entry};
+pub use laws::{
+    accepted_orders, condorcet_winner_is_unique, condorcet_winner_stays, profiles_are_complete,
+    restricted_orders, restricted_to_the_whole, restriction_keeps_pairs,
+};
 pub use profile::{LINES_LIMIT, Profile};
 pub use refused::{AddFault, Refused};
 pub use vir_altset::{AltSet, LIMIT, Split};
