@@ -1,0 +1,33 @@
+-- How the bytes read so far and what is left make up what there was.
+use Rattle.std.proofs.Common.{◌≡◌, ℕ, ◌+◌, ◌-◌, ◌≤◌, Bool, List, ◌++◌, length, take, Option, None, Some, IsTrue, sym, ap, ◌∙◌, append_assoc, arith, length-append, length-take}
+use Rattle.std.specs.Io.KnownBytes.{Consumes}
+use Rattle.vir_outside.specs.Shelf.{Files}
+
+-- A loop has read these bytes of a rest, from a shelf that told these files.
+pub record IsReading (told : Option Files) (limit before : ℕ) (rest : Option (List ℕ))
+    (files : Option Files) (selected : Bool) (now : ℕ) (left : Option (List ℕ)) (whole : List ℕ) : Type 0 where
+  pub same_files : files ≡ told
+  pub is_selected : IsTrue selected
+  pub within : length whole ≤ limit
+  pub later : before ≤ now
+  pub parts : Consumes rest left whole
+
+-- Two reads, one after the other, are one.
+consumes_more : (rest left new : Option (List ℕ)) (whole bytes : List ℕ)
+    → Consumes rest left whole → Consumes left new bytes → Consumes rest new (whole ++ bytes)
+consumes_more None left new whole bytes first second = tt
+consumes_more (Some xs) None new whole bytes first second = absurd first
+consumes_more (Some xs) (Some ys) None whole bytes first second = absurd second
+consumes_more (Some xs) (Some ys) (Some zs) whole bytes first second =
+    first ∙ ap (λ (ws : List ℕ). whole ++ ws) second ∙ sym (append_assoc whole bytes zs)
+
+-- After one more read into a buffer of what is missing to the limit and one byte, at most that was taken.
+pub taken_more : (rest left new : Option (List ℕ)) (whole buf : List ℕ) (n limit : ℕ)
+    → Consumes rest left whole → Consumes left new (take n buf)
+    → length whole ≤ limit → length buf ≤ limit - length whole + 1
+    → (x : List ℕ) × (length x ≤ limit + 1) × Consumes rest new x
+taken_more rest left new whole buf n limit first second within room = (
+  whole ++ take n buf,
+  omega (arith, length-append whole (take n buf), length-take n buf),
+  consumes_more rest left new whole (take n buf) first second,
+)
