@@ -1,0 +1,3 @@
+pub mod PlainProfile
+pub mod Numbers
+pub mod Refusals

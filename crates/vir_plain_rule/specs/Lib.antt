@@ -1,0 +1,2 @@
+pub mod PlainRule
+pub mod Plain
