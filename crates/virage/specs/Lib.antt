@@ -1,0 +1,11 @@
+pub mod Command
+pub mod ResultText
+pub mod Fate
+pub mod Files
+pub mod Answer
+pub use Rattle.vir_outside.specs.Faults
+pub use Rattle.vir_outside.specs.Shelf
+pub use Rattle.vir_outside.specs.Sink
+pub use Rattle.vir_plain_rule.specs.PlainRule
+pub use Rattle.vir_plain_profile.specs.PlainProfile
+pub use Rattle.vir_mean.specs.Meaning

@@ -1,0 +1,41 @@
+//! The program: counts a profile with a voting rule.
+//!
+//! `main` hands the words of the command line, the files of the current folder and the standard
+//! streams to one call, `virage`, which is generic in where files and texts come from and go to, and
+//! ends with the status that it answers. The contract of that call is what users rest on: over files
+//! that are told, what it prints is the meaning of the rule on the profile; each status comes where
+//! its cause is, and where the cause is the status comes. All of it is said by one function of the
+//! words and the files (`specs/Fate.antt`). It stands on all other crates.
+#![tactic(auto)]
+
+mod command;
+mod count;
+mod files;
+mod result_text;
+mod stop;
+#[cfg(test)]
+mod tests;
+mod top;
+
+use std::process::ExitCode;
+use std::{env, io};
+use stop::{OUT_OF_MEMORY, USAGE_FAULT};
+use top::virage;
+use vir_outside::{FolderShelf, StreamSink};
+
+fn main(rt: HostRuntime) -> ExitCode {
+    let words = match env::args(&rt) {
+        Ok(all) => all.skip(1).collect::<Vec<String>>(rt.alloc()),
+        Err(error) if error.kind() == io::ErrorKind::OutOfMemory => return ExitCode::from(
+            OUT_OF_MEMORY,
+        ),
+        Err(_) => return ExitCode::from(USAGE_FAULT),
+    };
+    let Ok(words) = words else {
+        return ExitCode::from(OUT_OF_MEMORY);
+    };
+    let mut shelf = FolderShelf::new(&rt);
+    let mut out = StreamSink::new(rt.stdout());
+    let mut err = StreamSink::new(rt.stderr());
+    ExitCode::from(virage(rt.alloc(), &words, &mut shelf, &mut out, &mut err))
+}
