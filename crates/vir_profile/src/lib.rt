@@ -13,6 +13,7 @@ mod ballot;
 mod laws;
 mod profile;
 mod refused;
+mod soc_file;
 #[cfg(test)]
 mod tests;
 
@@ -23,4 +24,5 @@ pub use laws::{
 };
 pub use profile::{LINES_LIMIT, Profile};
 pub use refused::{AddFault, Refused};
+pub use soc_file::{Name, NameText, SocFile};
 pub use vir_altset::{AltSet, LIMIT, Split};

@@ -1,0 +1,16 @@
+pub mod AnyLemmas
+pub mod NameLemmas
+pub mod TrimLemmas
+pub mod SplitLemmas
+pub mod OrderLemmas
+pub mod LineLemmas
+pub mod CutLemmas
+pub mod FeedLemmas
+pub mod StandLemmas
+pub mod AcceptedLemmas
+pub mod WriteLemmas
+pub mod DigitLemmas
+pub mod CleanLemmas
+pub mod WrittenVotesLemmas
+pub mod WrittenMetadataLemmas
+pub mod RoundTripLemmas

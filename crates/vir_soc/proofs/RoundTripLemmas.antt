@@ -1,0 +1,212 @@
+-- A written file is read back.
+use Rattle.std.proofs.Common.{◌≡◌, ℕ, suc, ◌+◌, ◌<◌, ◌≤◌, Bool, true, false, cond, List, [], ◌∷◌, ◌++◌, length, get_or, map, codes, decimal, Some, Result, Ok, nat_eq, ap, eq-eqb, sym, ◌∙◌, refl, arith, append_assoc, append-nil}
+use Rattle.std.specs.Prelude.{All}
+use Rattle.std.specs.List.{flat_map, list_any, slice_split}
+use Rattle.std.proofs.lemmas.Bool.{le-leb}
+use Rattle.std.proofs.lemmas.List.{length-append}
+use Rattle.std.proofs.lemmas.List.Concat.{flat_map-append}
+use Rattle.std.proofs.lemmas.List.Folds.{list_any-append}
+use Rattle.std.proofs.lemmas.List.Splits.{slice_split_at}
+use Rattle.std.proofs.lemmas.List.Sums.{sum_by-cons, sum_by_push, get_or-le-sum_by}
+use Rattle.vir_profile.specs.Add.{IsProfile, lines_limit, voters_limit}
+use Rattle.vir_profile.specs.Profiles.{Votes, total_weight}
+use Rattle.vir_profile.specs.SocFiles.{AreNames, File, is_line_feed}
+use Rattle.vir_profile.specs.declared.ballot.Entry.{Entry}
+use Rattle.vir_profile.specs.declared.soc_file.Name.{Name}
+use Rattle.vir_soc.specs.declared.fault.SocFault.{SocFault}
+use Rattle.vir_soc.specs.Lines.{lines, trim, without_mark}
+use Rattle.vir_soc.specs.Said.{Said, nothing}
+use Rattle.vir_soc.specs.Soc.{after_line, after_lines, after_text, file_of, size_limit, soc, whole}
+use Rattle.vir_soc.specs.SocText.{counts_text, metadata_text, name_text, order_text, soc_text, votes_text}
+use Rattle.vir_soc.proofs.AnyLemmas.{All-none, or_false}
+use Rattle.vir_soc.proofs.DigitLemmas.{line_feed_fails, list_any-decimal}
+use Rattle.vir_soc.proofs.LineLemmas.{after_lines_append}
+use Rattle.vir_soc.proofs.WrittenMetadataLemmas.{alternatives_read, metadata_line, name_key_text, name_line, name_lines-one_line, names_read, names_up_to-all, orders_read, type_read, voters_read}
+use Rattle.vir_soc.proofs.WrittenVotesLemmas.{IsLine, IsLine-accepted, after_line-votes, votes_line, votes_line-one_line}
+
+-- ---- lines
+
+-- these lines, each ended by a line feed
+abbrev pub ended_text : List (List ℕ) → List ℕ
+ended_text texts = flat_map (λ text. text ++ 10 ∷ []) texts
+
+-- whether a line feed stands inside one of the lines
+abbrev pub is_torn : List (List ℕ) → Bool
+is_torn texts = list_any (λ text. list_any is_line_feed text) texts
+
+-- lines that are ended are found again
+lines-ended_text : (texts : List (List ℕ)) → is_torn texts ≡ false → lines (ended_text texts) ≡ texts ++ [] ∷ []
+lines-ended_text [] h = refl
+lines-ended_text (text ∷ texts) h =
+    let b = or_false (list_any is_line_feed text) (is_torn texts) h in
+    ap (slice_split is_line_feed) (append_assoc text (10 ∷ []) (ended_text texts))
+    ∙ slice_split_at is_line_feed text 10 (ended_text texts) (All-none is_line_feed text b.0) refl
+    ∙ ap (λ ts. text ∷ ts) (lines-ended_text texts b.1)
+
+is_torn-append : (first later : List (List ℕ)) → is_torn first ≡ false → is_torn later ≡ false → is_torn (first ++ later) ≡ false
+is_torn-append first later f l = list_any-append (λ text. list_any is_line_feed text) first later ∙ rw (f, l) refl
+
+-- an empty line says nothing
+after_line-nothing : (said : Said) (n : ℕ) → after_line said n [] ≡ Ok said
+unfolding after_line
+after_line-nothing said n = elim (nat_eq n 1) as (λ b. after_text said n (trim (cond b (without_mark []) [])) ≡ Ok said) [ true ↦ refl | false ↦ refl ]
+
+after_lines-nothing : (said : Said) (n : ℕ) → after_lines said n ([] ∷ []) ≡ Ok said
+unfolding after_lines
+after_lines-nothing said n = rw (after_line-nothing said n) refl
+
+-- the file that some lines are, as the text of these lines is
+soc-ended_text : (texts : List (List ℕ)) (said : Said) → is_torn texts ≡ false → after_lines nothing 1 texts ≡ Ok said → length (ended_text texts) ≤ size_limit → soc (ended_text texts) ≡ whole said (length (texts ++ [] ∷ []))
+soc-ended_text texts said torn read fits =
+    let fits_is = le-leb (length (ended_text texts)) size_limit fits in
+    let last : after_lines nothing 1 (texts ++ [] ∷ []) ≡ Ok said = after_lines_append nothing 1 texts ([] ∷ []) ∙ rw read (after_lines-nothing said (1 + length texts)) in
+    rw fits_is (ap file_of (lines-ended_text texts torn) ∙ rw last refl)
+
+-- ---- the lines of a file
+
+-- the lines of the counts
+unfoldable count_lines : Votes → List (List ℕ)
+count_lines profile =
+    metadata_line (codes "DATA TYPE") (codes "soc")
+    ∷ metadata_line (codes "NUMBER ALTERNATIVES") (decimal profile.alternatives)
+    ∷ metadata_line (codes "NUMBER VOTERS") (decimal (total_weight profile.lines))
+    ∷ metadata_line (codes "NUMBER UNIQUE ORDERS") (decimal (length profile.lines))
+    ∷ []
+
+-- the lines of a file, without their line feeds
+abbrev written_lines : File → List (List ℕ)
+written_lines file = count_lines file.profile ++ map name_line file.names ++ map votes_line file.profile.lines
+
+four_parts : (a b c d : List ℕ) → a ++ b ++ c ++ d ≡ a ++ (b ++ (c ++ (d ++ [])))
+four_parts a b c d = simp (append_assoc, append-nil)
+
+counts_text-lines : (profile : Votes) → counts_text profile ≡ ended_text (count_lines profile)
+unfolding counts_text count_lines metadata_text
+counts_text-lines profile = four_parts (metadata_line (codes "DATA TYPE") (codes "soc") ++ 10 ∷ []) (metadata_line (codes "NUMBER ALTERNATIVES") (decimal profile.alternatives) ++ 10 ∷ []) (metadata_line (codes "NUMBER VOTERS") (decimal (total_weight profile.lines)) ++ 10 ∷ []) (metadata_line (codes "NUMBER UNIQUE ORDERS") (decimal (length profile.lines)) ++ 10 ∷ [])
+
+name_text-line : (name : Name) → name_text name ≡ name_line name ++ 10 ∷ []
+unfolding name_text metadata_text
+name_text-line name = ap (λ t. t ++ 10 ∷ []) (append_assoc (35 ∷ 32 ∷ name_key_text name.number) (58 ∷ 32 ∷ []) name.text)
+
+names-lines : (names : List Name) → flat_map name_text names ≡ ended_text (map name_line names)
+names-lines [] = refl
+names-lines (n ∷ ns) = rw (name_text-line n, names-lines ns) refl
+
+votes_text-line : (entry : Entry) → votes_text entry ≡ votes_line entry ++ 10 ∷ []
+votes_text-line entry = ap (λ t. t ++ 10 ∷ []) (append_assoc (decimal entry.weight) (58 ∷ 32 ∷ []) (order_text entry.order))
+
+votes-lines : (entries : List Entry) → flat_map votes_text entries ≡ ended_text (map votes_line entries)
+votes-lines [] = refl
+votes-lines (e ∷ es) = ap (λ t. t ++ flat_map votes_text es) (votes_text-line e) ∙ ap (λ t. (votes_line e ++ 10 ∷ []) ++ t) (votes-lines es)
+
+soc_text-lines : (file : File) → soc_text file ≡ ended_text (written_lines file)
+soc_text-lines file =
+    rw (counts_text-lines file.profile, names-lines file.names, votes-lines file.profile.lines)
+    (sym (flat_map-append (λ text. text ++ 10 ∷ []) (count_lines file.profile ++ map name_line file.names) (map votes_line file.profile.lines)
+    ∙ ap (λ t. t ++ ended_text (map votes_line file.profile.lines)) (flat_map-append (λ text. text ++ 10 ∷ []) (count_lines file.profile) (map name_line file.names))))
+
+-- ---- none of the lines is torn
+
+number_line : (n : ℕ) → n ≤ voters_limit → list_any is_line_feed (decimal n) ≡ false
+number_line n h = list_any-decimal is_line_feed line_feed_fails n (omega arith)
+
+count_lines-torn : (profile : Votes) → IsProfile profile → is_torn (count_lines profile) ≡ false
+unfolding count_lines
+count_lines-torn profile h =
+    let few = h.few in
+    let fewer = h.lines in
+    rw (number_line profile.alternatives (omega arith), number_line (total_weight profile.lines) h.weights, number_line (length profile.lines) (omega arith)) refl
+
+-- lines of a profile of m alternatives
+record AreLines (m : ℕ) (entries : List Entry) : Type 0 where
+  pub each : All (IsLine m) entries
+
+first_line : (m : ℕ) (entry : Entry) (entries : List Entry) → AreLines m (entry ∷ entries) → IsLine m entry
+first_line m entry entries h = h.each 0 entry (omega arith)
+
+other_lines : (m : ℕ) (entry : Entry) (entries : List Entry) → AreLines m (entry ∷ entries) → AreLines m entries
+other_lines m entry entries h = record { each = λ k d l. h.each (suc k) d (omega arith) }
+
+AreLines-profile : (profile : Votes) → IsProfile profile → AreLines profile.alternatives profile.lines
+AreLines-profile profile h = record {
+  each = λ k d l.
+      let weight = get_or-le-sum_by (λ (entry : Entry). entry.weight) profile.lines k d l in
+      let most = h.weights in
+      IsLine-accepted profile.alternatives (get_or profile.lines k d) h.some h.few (omega arith) (h.orders k d l);
+}
+
+votes_lines-torn : (m : ℕ) (entries : List Entry) → AreLines m entries → is_torn (map votes_line entries) ≡ false
+votes_lines-torn m [] h = refl
+votes_lines-torn m (e ∷ es) h = rw (votes_line-one_line m e (first_line m e es h)) (votes_lines-torn m es (other_lines m e es h))
+
+written_lines-torn : (file : File) → IsProfile file.profile → AreNames file.profile.alternatives file.names → is_torn (written_lines file) ≡ false
+written_lines-torn file p n =
+    is_torn-append (count_lines file.profile ++ map name_line file.names) (map votes_line file.profile.lines)
+    (is_torn-append (count_lines file.profile) (map name_line file.names) (count_lines-torn file.profile p) (name_lines-one_line file.profile.alternatives 0 file.names p.few n))
+    (votes_lines-torn file.profile.alternatives file.profile.lines (AreLines-profile file.profile p))
+
+-- ---- what the lines say
+
+-- what the counts say
+abbrev counted : Votes → Said
+counted profile = record {
+  alternatives = Some profile.alternatives;
+  voters = Some (record { value = total_weight profile.lines; line = 3 });
+  orders = Some (record { value = length profile.lines; line = 4 });
+  names = [];
+  votes = [];
+}
+
+counts_read : (profile : Votes) → IsProfile profile → after_lines nothing 1 (count_lines profile) ≡ Ok (counted profile)
+unfolding after_lines count_lines
+counts_read profile h =
+    let fewer = h.lines in
+    let s2 : Said = record nothing { alternatives = Some profile.alternatives } in
+    let s3 : Said = record s2 { voters = Some (record { value = total_weight profile.lines; line = 3 }) } in
+    rw (type_read nothing 1, alternatives_read nothing 2 profile.alternatives h.some h.few refl, voters_read s2 3 (total_weight profile.lines) h.weights refl, orders_read s3 4 (length profile.lines) (omega arith) refl) refl
+
+votes_read : (m : ℕ) (said : Said) (n : ℕ) (entries : List Entry) → 1 < n → said.alternatives ≡ Some m → AreLines m entries → length said.votes + length entries ≤ lines_limit → total_weight said.votes + total_weight entries ≤ voters_limit → after_lines said n (map votes_line entries) ≡ Ok (record said { votes = said.votes ++ entries })
+unfolding after_lines
+votes_read m said n [] later known h few fits = let put : List Entry → Result Said SocFault = λ votes. Ok (record said { votes = votes }) in ap put (sym (append-nil said.votes))
+votes_read m said n (e ∷ es) later known h few fits =
+    let put : List Entry → Result Said SocFault = λ votes. Ok (record said { votes = votes }) in
+    let next : Said = record said { votes = said.votes ++ e ∷ [] } in
+    let first = sum_by-cons (λ (entry : Entry). entry.weight) e es in
+    let sum = sum_by_push (λ (entry : Entry). entry.weight) said.votes e in
+    let len = length-append said.votes (e ∷ []) in
+    let line : after_line said n (votes_line e) ≡ Ok next = after_line-votes m e (first_line m e es h) said n later known (omega arith) (omega arith) in
+    rw line (votes_read m next (n + 1) es (omega arith) known (other_lines m e es h) (omega arith) (omega arith) ∙ ap put (append_assoc said.votes (e ∷ []) es))
+
+-- no line of votes is the first line
+later_lines : (profile : Votes) (names : List Name) → 1 < 1 + length (count_lines profile ++ map name_line names)
+unfolding count_lines
+later_lines profile names = omega arith
+
+-- what a file's lines say
+abbrev file_said : File → Said
+file_said file = record (counted file.profile) { names = file.names; votes = file.profile.lines }
+
+file_read : (file : File) → IsProfile file.profile → AreNames file.profile.alternatives file.names → after_lines nothing 1 (written_lines file) ≡ Ok (file_said file)
+file_read file p n =
+    let profile = file.profile in
+    let named : Said = record (counted profile) { names = file.names } in
+    let names : after_lines (counted profile) (1 + length (count_lines profile)) (map name_line file.names) ≡ Ok named = names_read profile.alternatives 0 (counted profile) (1 + length (count_lines profile)) file.names p.few tt n in
+    let before : after_lines nothing 1 (count_lines profile ++ map name_line file.names) ≡ Ok named = after_lines_append nothing 1 (count_lines profile) (map name_line file.names) ∙ rw (counts_read profile p) names in
+    let later = later_lines profile file.names in
+    let few = p.lines in
+    let fits = p.weights in
+    let few_lines : 0 + length profile.lines ≤ lines_limit = omega arith in
+    let few_voters : 0 + total_weight profile.lines ≤ voters_limit = omega arith in
+    let votes = votes_read profile.alternatives named (1 + length (count_lines profile ++ map name_line file.names)) profile.lines later refl (AreLines-profile profile p) few_lines few_voters in
+    after_lines_append nothing 1 (count_lines profile ++ map name_line file.names) (map votes_line profile.lines) ∙ rw before votes
+
+whole-file : (file : File) (last : ℕ) → AreNames file.profile.alternatives file.names → whole (file_said file) last ≡ Ok file
+unfolding whole
+whole-file file last n = rw (eq-eqb (total_weight file.profile.lines) (total_weight file.profile.lines) refl, eq-eqb (length file.profile.lines) (length file.profile.lines) refl, names_up_to-all file.profile.alternatives 0 file.names n) refl
+
+-- the text of a file is read as that file
+pub soc-soc_text : (file : File) → IsProfile file.profile → AreNames file.profile.alternatives file.names → length (soc_text file) ≤ size_limit → soc (soc_text file) ≡ Ok file
+soc-soc_text file p n fits =
+    let text = soc_text-lines file in
+    let same_length = ap length text in
+    ap soc text ∙ soc-ended_text (written_lines file) (file_said file) (written_lines-torn file p n) (file_read file p n) (omega arith) ∙ whole-file file (length (written_lines file ++ [] ∷ [])) n

@@ -1,0 +1,14 @@
+use Rattle.std.proofs.Common.{◌≡◌, ◌+◌, ◌≤◌, length, ℕ, List}
+use Rattle.vir_soc.specs.Pieces.{Progress, reads}
+use Rattle.vir_soc.specs.Views.{progress_of}
+use Rattle.vir_soc.proofs.line_reader.read.Given as goal
+
+pub record SoFar (first now : Progress) (piece rest : List ℕ) : Type 0 where
+  pub same : reads first piece ≡ reads now rest
+  pub line : now.line + length rest ≤ first.line + length piece
+
+abbrev pub invariant-loop-reader : goal.invariant-loop-reader
+invariant-loop-reader l = SoFar (progress_of l.fn.reader) (progress_of l.reader) l.piece l.rest
+
+abbrev pub decreases-loop-reader : goal.decreases-loop-reader
+decreases-loop-reader l = length l.rest

@@ -1,0 +1,15 @@
+use Rattle.std.proofs.Common.{[], ap, sym, ◌∙◌, arith, subst}
+use Rattle.vir_altset.specs.Sets.{limit}
+use Rattle.vir_profile.specs.SocFiles.{AreNames}
+use Rattle.vir_soc.specs.Places.{place}
+use Rattle.vir_soc.proofs.NameLemmas.{with_name-removed, AreNamesAbove-with_name}
+use Rattle.vir_soc.proofs.names.Names.remove.Goals as goal
+
+pub invariant_of-self : goal.invariant_of-self
+invariant_of-self c =
+    let is = with_name-removed c.args.number c.place-at.result c.self.inside.list.items c.remove_same.new.list.items (c.place-at.ensures.place ∙ ap (place c.args.number) c.deref.ensures.value) c.remove_same.ensures.items in
+    subst (AreNames limit) (sym is) (AreNamesAbove-with_name limit c.args.number [] c.requires.limit (λ h. absurd (omega arith)) 0 c.self.inside.list.items (omega arith) c.self.invariant)
+
+pub returns : goal.returns
+returns c =
+    rw (← c.self.view_is) (with_name-removed c.args.number c.place-at.result c.self.inside.list.items c.remove_same.new.list.items (c.place-at.ensures.place ∙ ap (place c.args.number) c.deref.ensures.value) c.remove_same.ensures.items)

@@ -1,0 +1,17 @@
+pub mod Kinds
+pub mod Checks
+pub mod Lines
+pub mod Numbers
+pub mod Names
+pub mod Said
+pub mod Metadata
+pub mod Votes
+pub mod Soc
+pub mod Accepted
+pub mod SocText
+pub mod Answers
+pub mod Steps
+pub mod Places
+pub mod Pieces
+pub mod Views
+pub mod Stands

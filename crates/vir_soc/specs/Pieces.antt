@@ -1,0 +1,54 @@
+-- How a reader goes on from line to line and from piece to piece. The format itself does not stand on this.
+use Rattle.std.specs.Prelude.{ℕ, ◌+◌, ◌-◌, List, [], ◌∷◌, ◌++◌, length, take, Result, Ok, if◌then◌else◌, nat_lt}
+use Rattle.vir_profile.specs.SocFiles.{File, is_line_feed}
+use Rattle.vir_soc.specs.declared.kind.SocKind.TheVariants.{FileTooLong}
+use Rattle.vir_soc.specs.declared.fault.SocFault.{SocFault}
+use Rattle.vir_soc.specs.Checks.{◌>>=◌, refuse, at_line}
+use Rattle.vir_soc.specs.Said.{Said}
+use Rattle.vir_soc.specs.Soc.{after_line, after_lines, whole, size_limit}
+
+-- the lines that a line feed ends, where the first of them has begun so
+unfoldable pub ended : List ℕ → List ℕ → List (List ℕ)
+ended begun [] = []
+ended begun (c ∷ cs) = if is_line_feed c then begun ∷ ended [] cs else ended (begun ++ c ∷ []) cs
+
+-- what stands behind the last line feed
+unfoldable pub unended : List ℕ → List ℕ → List ℕ
+unended begun [] = begun
+unended begun (c ∷ cs) = if is_line_feed c then unended [] cs else unended (begun ++ c ∷ []) cs
+
+-- what the ended lines say, the number of the line that has begun, and its bytes so far
+pub record Progress : Type 0 where
+  pub said : Said
+  pub line : ℕ
+  pub begun : List ℕ
+
+-- the line that has begun ends with these bytes
+abbrev pub end_line : Progress → List ℕ → Result Progress SocFault
+end_line p end = do
+  said ← at_line p.line (after_line p.said p.line (p.begun ++ end))
+  Ok (record { said = said; line = p.line + 1; begun = [] })
+
+-- further bytes
+abbrev pub reads : Progress → List ℕ → Result Progress SocFault
+reads p bytes = do
+  said ← after_lines p.said p.line (ended p.begun bytes)
+  Ok (record { said = said; line = p.line + length (ended p.begun bytes); begun = unended p.begun bytes })
+
+-- progress, and how many bytes there were
+pub record Reading : Type 0 where
+  pub progress : Progress
+  pub size : ℕ
+
+-- a further piece, as far as a file may go
+abbrev pub feeds : Reading → List ℕ → Result Reading SocFault
+feeds r piece = do
+  p ← reads r.progress (take (size_limit - r.size) piece)
+  _ ← at_line p.line (refuse (nat_lt size_limit (r.size + length piece)) FileTooLong)
+  Ok (record { progress = p; size = r.size + length piece })
+
+-- the file, where this is its last line
+abbrev pub closed : Said → ℕ → List ℕ → Result File SocFault
+closed said last text = do
+  said ← at_line last (after_line said last text)
+  whole said last

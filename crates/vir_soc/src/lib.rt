@@ -1,0 +1,32 @@
+//! The format of PrefLib's files of strict complete orders, read in pieces and written.
+//!
+//! `specs/Soc.antt` states the format as one function on all bytes of a file: what the file says, or
+//! its first fault with its line. The one contract: however the bytes are cut into pieces, a
+//! [`SocReader`] gives what that function gives, and shows a fault as soon as the bytes so far settle
+//! it. What [`write_soc`] writes of a file reads back as that file. The layer stands on `vir_profile`,
+//! whose `SocFile` is what a file says.
+#![tactic(auto)]
+
+mod bytes;
+mod fault;
+mod key;
+mod kind;
+mod laws;
+mod line;
+mod line_reader;
+mod metadata;
+mod names;
+mod sayings;
+mod soc_reader;
+mod stop;
+#[cfg(test)]
+mod tests;
+mod told;
+mod votes;
+mod write;
+
+pub use fault::{SocError, SocFault};
+pub use kind::SocKind;
+pub use laws::{fault_stays, votes_are_lines};
+pub use soc_reader::{SIZE_LIMIT, SocReader};
+pub use write::{write_soc, written_files_read_back};

@@ -1,0 +1,55 @@
+ghost use Rattle.std.specs.Prelude.{◌≡◌, false, nat_eq, if◌then◌else◌};
+ghost use Rattle.std.specs.List.{list_any};
+ghost use Rattle.vir_profile.specs.SocFiles.{is_line_feed};
+ghost use Rattle.vir_soc.specs.Lines.{without_mark};
+ghost use Rattle.vir_soc.specs.Soc.{after_line, after_text};
+ghost use Rattle.vir_soc.specs.Steps.{Gives};
+ghost use Rattle.vir_soc.specs.Views.{said_of};
+ghost use Rattle.vir_soc.specs.Votes.{after_votes};
+
+use crate::bytes::{trim, without_mark};
+use crate::kind::SocKind;
+use crate::metadata::after_metadata;
+use crate::sayings::Sayings;
+use crate::stop::Stop;
+use crate::votes::with_votes;
+use std::alloc::Global;
+
+fn after_votes(alloc: Global, said: &mut Sayings, text: &[u8]) -> Result<(), Stop>
+    ensures { Gives (λ _. said_of said.new) result (after_votes (said_of said.old) text.now) }
+{
+    match &mut said.profile {
+        Some(profile) => with_votes(alloc, profile, text),
+        None => Err(Stop::Kind(SocKind::NoAlternativeCount)),
+    }
+}
+
+fn after_text(alloc: Global, said: &mut Sayings, line: u64, text: &[u8]) -> Result<(), Stop>
+    requires { list_any is_line_feed text.now ≡ false }
+    ensures { Gives (λ _. said_of said.new) result (after_text (said_of said.old) line text.now) }
+{
+    if text.is_empty() {
+        return Ok(());
+    }
+    if text[0] == b'#' {
+        after_metadata(alloc, said, line, &text[1..])
+    } else {
+        after_votes(alloc, said, text)
+    }
+}
+
+/// The line without a byte order mark, which only the first line may have.
+fn unmarked(line: u64, text: &[u8]) -> &[u8]
+    ensures { result.now ≡ (if nat_eq line 1 then without_mark text.now else text.now) }
+{
+    if line == 1 { without_mark(text) } else { text }
+}
+
+/// Takes the line of this number, without its line feed.
+#[tactic(auto, unfolding(crate::specs::Soc::after_line))]
+pub fn after_line(alloc: Global, said: &mut Sayings, line: u64, text: &[u8]) -> Result<(), Stop>
+    requires { list_any is_line_feed text.now ≡ false }
+    ensures { Gives (λ _. said_of said.new) result (after_line (said_of said.old) line text.now) }
+{
+    after_text(alloc, said, line, trim(unmarked(line, text)))
+}

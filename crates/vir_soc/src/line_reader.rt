@@ -1,0 +1,128 @@
+ghost use Rattle.std.specs.Prelude.{◌≡◌, ◌+◌, ◌++◌, ◌<◌, ◌≤◌, ◌^◌, [], false, length, nat_eq, OnOk};
+ghost use Rattle.std.specs.List.{list_any};
+ghost use Rattle.vir_profile.specs.SocFiles.{is_line_feed};
+ghost use Rattle.vir_soc.specs.Answers.{Answers};
+ghost use Rattle.vir_soc.specs.Pieces as rules;
+ghost use Rattle.vir_soc.specs.Views.{progress_of};
+
+use crate::bytes::cut;
+use crate::fault::{SocError, SocFault};
+use crate::line::after_line;
+use crate::sayings::Sayings;
+use crate::stop::Stop;
+use std::alloc::{AllocError, Global};
+use std::marker::Model;
+
+/// The bytes of a line that has begun and that no line feed has ended yet.
+#[derive(Drop)]
+pub struct Begun {
+    bytes: Vec<u8>,
+}
+
+impl Model for Begun {
+    ghost use Rattle.std.specs.Prelude.{◌≡◌, ℕ, false, List};
+    ghost use Rattle.std.specs.List.{list_any};
+    ghost use Rattle.vir_profile.specs.SocFiles.{is_line_feed};
+
+    ghost Value = { List ℕ };
+
+    ghost view = { λ a. a.bytes.items };
+
+    ghost invariant = { λ a. list_any is_line_feed a.bytes.items ≡ false };
+}
+
+impl Begun {
+    /// A line without bytes.
+    pub fn new(alloc: Global) -> Begun
+        ensures { result ≡ [] }
+    {
+        Begun {
+            bytes: Vec::new(alloc),
+        }
+    }
+
+    fn is_empty(&self) -> bool
+        ensures { result ≡ nat_eq (length self.now) 0 }
+    {
+        self.bytes.is_empty()
+    }
+
+    /// The line goes on with these bytes.
+    fn extend(&mut self, bytes: &[u8]) -> Result<(), AllocError>
+        requires { list_any is_line_feed bytes.now ≡ false }
+        ensures { OnOk result (self.new ≡ self.old ++ bytes.now) }
+    {
+        self.bytes.extend_from_slice(bytes)
+    }
+
+    fn clear(&mut self)
+        ensures { self.new ≡ [] }
+    {
+        self.bytes.clear();
+    }
+
+    /// The bytes so far.
+    pub fn bytes(&self) -> &[u8]
+        ensures bytes { result.now ≡ self.now }
+        ensures known { list_any is_line_feed result.now ≡ false }
+    {
+        self.bytes.as_slice()
+    }
+}
+
+/// What the ended lines say, and the line that has begun.
+#[derive(Drop)]
+pub struct LineReader {
+    pub said: Sayings,
+    /// The number of the line that has begun.
+    pub line: u64,
+    pub begun: Begun,
+}
+
+/// Takes the bytes that end the line that has begun.
+fn end_line(alloc: Global, reader: &mut LineReader, end: &[u8]) -> Result<(), SocError>
+    requires line { reader.old.line + 1 < 2 ^ 64 }
+    requires end { list_any is_line_feed end.now ≡ false }
+    ensures exact { Answers (λ _. progress_of reader.new) result
+        (rules.end_line (progress_of reader.old) end.now) }
+    ensures line { OnOk result (reader.new.line ≡ reader.old.line + 1) }
+{
+    let line = reader.line;
+    let taken = if reader.begun.is_empty() {
+        after_line(alloc, &mut reader.said, line, end)
+    } else {
+        reader.begun.extend(end)?;
+        after_line(alloc, &mut reader.said, line, reader.begun.bytes())
+    };
+    match taken {
+        Ok(()) => {}
+        Err(Stop::Kind(kind)) => return Err(SocError::Fault(SocFault { line, kind })),
+        Err(Stop::Memory) => return Err(SocError::Memory),
+    }
+    reader.begun.clear();
+    reader.line = line + 1;
+    Ok(())
+}
+
+/// Takes further bytes.
+pub fn read(alloc: Global, reader: &mut LineReader, piece: &[u8]) -> Result<(), SocError>
+    requires { reader.old.line + length piece.now < 2 ^ 64 }
+    ensures exact { Answers (λ _. progress_of reader.new) result
+        (rules.reads (progress_of reader.old) piece.now) }
+    ensures line { OnOk result (reader.new.line ≤ reader.old.line + length piece.now) }
+{
+    let mut rest = piece;
+    loop {
+        let (before, after) = cut(b'\n', rest);
+        match after {
+            None => {
+                reader.begun.extend(before)?;
+                return Ok(());
+            }
+            Some(after) => {
+                end_line(alloc, reader, before)?;
+                rest = after;
+            }
+        }
+    }
+}

@@ -1,0 +1,177 @@
+ghost use Rattle.std.specs.Prelude.{◌≡◌, ◌≤◌, ◌<◌, false, length, None, IfOk, Ok};
+ghost use Rattle.std.specs.List.{list_any};
+ghost use Rattle.vir_altset.specs.Sets.{limit};
+ghost use Rattle.vir_profile.specs.SocFiles.{IsNameText, is_line_feed};
+ghost use Rattle.vir_soc.specs.Metadata.{after_key, after_metadata, alternatives_told, is_soc, key_of, name_key, number_told};
+ghost use Rattle.vir_soc.specs.Names.{with_name};
+ghost use Rattle.vir_soc.specs.Steps.{Gives, IsKey};
+ghost use Rattle.vir_soc.specs.Views.{said_of};
+
+use crate::bytes::{cut, number, trim};
+use crate::key::Key;
+use crate::kind::SocKind;
+use crate::names::Names;
+use crate::sayings::{Sayings, take_alternatives};
+use crate::stop::Stop;
+use crate::told::Told;
+use std::alloc::Global;
+use vir_profile::{LIMIT, NameText};
+
+/// The number of alternatives that a value tells, beside what an earlier line told.
+pub fn alternatives_told(earlier: Option<u16>, value: &[u8]) -> Result<u16, SocKind>
+    ensures exact { result ≡ alternatives_told earlier value.now }
+    ensures range { IfOk result (λ m. earlier ≡ None → (1 ≤ m) × (m ≤ limit)) }
+{
+    let Some(n) = number(value) else {
+        return Err(SocKind::BadNumber);
+    };
+    if n == 0 {
+        return Err(SocKind::BadNumber);
+    }
+    if n > u128::from(LIMIT) {
+        return Err(SocKind::TooManyAlternatives);
+    }
+    let m = n as u16;
+    match earlier {
+        None => Ok(m),
+        Some(earlier) => if m == earlier {
+            Ok(m)
+        } else {
+            Err(SocKind::CountDiffers)
+        },
+    }
+}
+
+/// The number of voters or orders that a value tells, beside what an earlier line told.
+fn number_told(earlier: Option<Told>, line: u64, value: &[u8]) -> Result<Told, SocKind>
+    ensures { result ≡ number_told earlier line value.now }
+{
+    let Some(n) = number(value) else {
+        return Err(SocKind::BadNumber);
+    };
+    if n >= 1 << 64 {
+        return Err(SocKind::BadNumber);
+    }
+    let value = n as u64;
+    match earlier {
+        None => Ok(Told { value, line }),
+        Some(earlier) => if value == earlier.value {
+            Ok(earlier)
+        } else {
+            Err(SocKind::CountDiffers)
+        },
+    }
+}
+
+/// The key of the name of this alternative; a number above 2^64 is given as 2^64.
+fn name_key(number: Option<u128>) -> Key
+    ensures exact { result ≡ name_key number }
+    ensures known { IsKey result }
+{
+    match number {
+        Some(i) => if i == 0 || i > u128::from(LIMIT) {
+            Key::Other
+        } else {
+            Key::NameOf(i as u16)
+        },
+        None => Key::Other,
+    }
+}
+
+/// What the key of a metadata line asks for.
+fn key_of(key: &[u8]) -> Key
+    ensures exact { result ≡ key_of key.now }
+    ensures known { IsKey result }
+{
+    if key == b"DATA TYPE".as_slice() {
+        Key::DataType
+    } else if key == b"NUMBER ALTERNATIVES".as_slice() {
+        Key::Alternatives
+    } else if key == b"NUMBER VOTERS".as_slice() {
+        Key::Voters
+    } else if key == b"NUMBER UNIQUE ORDERS".as_slice() {
+        Key::Orders
+    } else {
+        match key.strip_prefix(b"ALTERNATIVE NAME ".as_slice()) {
+            Some(rest) => name_key(number(rest)),
+            None => Key::Other,
+        }
+    }
+}
+
+fn is_soc(value: &[u8]) -> bool
+    ensures { result ≡ is_soc value.now }
+{
+    value.eq_ignore_ascii_case(b"soc")
+}
+
+/// Gives this alternative this name, or takes its name away where the text is empty.
+fn take_name(alloc: Global, names: &mut Names, number: u16, text: &[u8]) -> Result<(), Stop>
+    requires alternative { 1 ≤ number }
+    requires limit { number ≤ limit }
+    requires text { 0 < length text.now → IsNameText text.now }
+    ensures { Gives (λ _. names.new) result (Ok (with_name number text.now names.old)) }
+{
+    if text.is_empty() {
+        names.remove(number);
+        return Ok(());
+    }
+    let bytes = Vec::from_slice(alloc, text)?;
+    names.put(number, NameText::of(bytes))?;
+    Ok(())
+}
+
+/// Takes a key with its value.
+fn after_key(
+    alloc: Global,
+    said: &mut Sayings,
+    line: u64,
+    key: Key,
+    value: &[u8],
+) -> Result<(), Stop>
+    requires key { IsKey key }
+    requires value { 0 < length value.now → IsNameText value.now }
+    ensures { Gives (λ _. said_of said.new) result
+        (after_key (said_of said.old) line key value.now) }
+{
+    match key {
+        Key::DataType => if is_soc(value) {
+            Ok(())
+        } else {
+            Err(Stop::Kind(SocKind::WrongType))
+        },
+        Key::Alternatives => match take_alternatives(alloc, &mut said.profile, value) {
+            Ok(()) => Ok(()),
+            Err(kind) => Err(Stop::Kind(kind)),
+        },
+        Key::Voters => match number_told(said.voters, line, value) {
+            Ok(told) => {
+                said.voters = Some(told);
+                Ok(())
+            }
+            Err(kind) => Err(Stop::Kind(kind)),
+        },
+        Key::Orders => match number_told(said.orders, line, value) {
+            Ok(told) => {
+                said.orders = Some(told);
+                Ok(())
+            }
+            Err(kind) => Err(Stop::Kind(kind)),
+        },
+        Key::NameOf(number) => take_name(alloc, &mut said.names, number, value),
+        Key::Other => Ok(()),
+    }
+}
+
+/// Takes a metadata line, here without its hash.
+pub fn after_metadata(alloc: Global, said: &mut Sayings, line: u64, text: &[u8]) -> Result<(), Stop>
+    requires { list_any is_line_feed text.now ≡ false }
+    ensures { Gives (λ _. said_of said.new) result
+        (after_metadata (said_of said.old) line text.now) }
+{
+    let (before, after) = cut(b':', text);
+    match after {
+        Some(value) => after_key(alloc, said, line, key_of(trim(before)), trim(value)),
+        None => Ok(()),
+    }
+}

@@ -1,0 +1,194 @@
+ghost use Rattle.std.specs.Prelude.{◌≡◌, ◌+◌, ◌++◌, ◌≤◌, [], List, ℕ, None, Err, OnOk, IfOk, IfErr};
+ghost use Rattle.vir_soc.specs.declared.fault.SocError.{SocError};
+ghost use Rattle.vir_soc.specs.Answers.{Answers, Shows};
+ghost use Rattle.vir_soc.specs.Pieces.{closed, feeds};
+ghost use Rattle.vir_soc.specs.Soc.{agrees, settled, size_limit, soc, whole};
+ghost use Rattle.vir_soc.specs.Stands.{stands};
+ghost use Rattle.vir_soc.specs.Steps.{Follows};
+ghost use Rattle.vir_soc.specs.Views.{reading_of, said_of};
+
+use crate::fault::{SocError, SocFault};
+use crate::kind::SocKind;
+use crate::line::after_line;
+use crate::line_reader::{Begun, LineReader, read};
+use crate::sayings::Sayings;
+use crate::stop::Stop;
+use crate::told::Told;
+use std::alloc::Global;
+use std::marker::Model;
+use vir_profile::SocFile;
+
+/// The most bytes that a file may have.
+pub const SIZE_LIMIT: u64 = 268_435_456;
+
+/// Takes a further piece, and gives the new size.
+fn take(alloc: Global, reader: &mut LineReader, size: u64, piece: &[u8]) -> Result<u64, SocError>
+    requires size { size ≤ size_limit }
+    requires line { reader.old.line ≤ size + 1 }
+    ensures exact { Answers (λ new. reading_of reader.new new) result
+        (feeds (reading_of reader.old size) piece.now) }
+    ensures size { IfOk result (λ new. (new ≤ size_limit) × (reader.new.line ≤ new + 1)) }
+{
+    let room = SIZE_LIMIT - size;
+    if piece.len() as u64 <= room {
+        read(alloc, reader, piece)?;
+        Ok(size + piece.len() as u64)
+    } else {
+        read(alloc, reader, &piece[..room as usize])?;
+        Err(SocError::Fault(SocFault {
+            line: reader.line,
+            kind: SocKind::FileTooLong,
+        }))
+    }
+}
+
+/// Compares a number that metadata told with this one.
+fn agrees(told: Option<Told>, n: u64, kind: SocKind) -> Result<(), SocFault>
+    ensures { result ≡ agrees told n kind }
+{
+    match told {
+        None => Ok(()),
+        Some(told) => if told.value == n {
+            Ok(())
+        } else {
+            Err(SocFault {
+                line: told.line,
+                kind,
+            })
+        },
+    }
+}
+
+/// The file of which all lines say this.
+#[tactic(auto, unfolding(crate::specs::Soc::whole))]
+fn whole(said: Sayings, last: u64) -> Result<SocFile, SocFault>
+    ensures { Follows (λ file. file) result (whole (said_of said) last) }
+{
+    let Sayings {
+        profile,
+        voters,
+        orders,
+        names,
+    } = said;
+    let Some(profile) = profile else {
+        return Err(SocFault {
+            line: last,
+            kind: SocKind::NoAlternativeCount,
+        });
+    };
+    agrees(voters, profile.total(), SocKind::VotersDiffer)?;
+    agrees(orders, profile.lines() as u64, SocKind::OrdersDiffer)?;
+    let names = names.up_to(profile.alternatives());
+    Ok(SocFile::of(profile, names))
+}
+
+/// The file whose last line is this one.
+fn close(alloc: Global, said: Sayings, line: u64, last: &Begun) -> Result<SocFile, SocError>
+    ensures { Answers (λ file. file) result (closed (said_of said) line last.now) }
+{
+    let mut said = said;
+    match after_line(alloc, &mut said, line, last.bytes()) {
+        Ok(()) => {}
+        Err(Stop::Kind(kind)) => return Err(SocError::Fault(SocFault { line, kind })),
+        Err(Stop::Memory) => return Err(SocError::Memory),
+    }
+    match whole(said, line) {
+        Ok(file) => Ok(file),
+        Err(fault) => Err(SocError::Fault(fault)),
+    }
+}
+
+/// Reads a file in pieces, and keeps at most one unfinished line beside what the lines so far say.
+///
+/// A reader stands for the bytes that it was fed since it was made, as long as no call answered an
+/// error. An error is final: each later call answers it again.
+#[derive(Drop)]
+pub struct SocReader {
+    alloc: Global,
+    reader: LineReader,
+    size: u64,
+    stopped: Option<SocError>,
+}
+
+impl Model for SocReader {
+    ghost use Rattle.std.specs.Prelude.{◌≡◌, ◌+◌, ◌≤◌, Result, None};
+    ghost use Rattle.vir_soc.specs.declared.fault.SocError.{SocError};
+    ghost use Rattle.vir_soc.specs.Pieces.{Reading};
+    ghost use Rattle.vir_soc.specs.Soc.{size_limit};
+    ghost use Rattle.vir_soc.specs.Stands.{state_of};
+
+    ghost Value = { Result Reading SocError };
+
+    ghost view = { λ a. state_of a.reader a.size a.stopped };
+
+    ghost invariant = { λ a. a.stopped ≡ None → (a.size ≤ size_limit) × (a.reader.line ≤ a.size + 1) };
+}
+
+impl SocReader {
+    /// A reader of a file of which no byte is read yet. It takes memory from this allocator as it
+    /// reads.
+    pub fn new(alloc: Global) -> SocReader
+        ensures { result ≡ stands [] }
+    {
+        SocReader {
+            alloc,
+            reader: LineReader {
+                said: Sayings::new(alloc),
+                line: 1,
+                begun: Begun::new(alloc),
+            },
+            size: 0,
+            stopped: None,
+        }
+    }
+
+    /// Takes the next piece of the file, which may be cut anywhere. A fault is answered with the piece
+    /// by which the bytes so far settle it.
+    pub fn feed(&mut self, piece: &[u8]) -> Result<(), SocError>
+        // It stood for some bytes: now it stands for these and the piece, which settle no fault.
+        ensures ok { (bytes : List ℕ) → self.old ≡ stands bytes
+            → OnOk result ((self.new ≡ stands (bytes ++ piece.now)) × (settled (bytes ++ piece.now) ≡ None)) }
+        // A fault is the one that these bytes and the piece settle.
+        ensures fault { (bytes : List ℕ) → self.old ≡ stands bytes
+            → IfErr result (λ e. Shows e (settled (bytes ++ piece.now))) }
+        // An error is kept, and a reader that keeps one answers it.
+        ensures keeps { IfErr result (λ e. self.new ≡ Err e) }
+        ensures again { (e : SocError) → self.old ≡ Err e → result ≡ Err e }
+    {
+        match self.stopped {
+            Some(stop) => return Err(stop),
+            None => {}
+        }
+        match take(self.alloc, &mut self.reader, self.size, piece) {
+            Ok(size) => {
+                self.size = size;
+                Ok(())
+            }
+            Err(stop) => {
+                self.stopped = Some(stop);
+                Err(stop)
+            }
+        }
+    }
+
+    /// What the file says, once all its pieces are fed.
+    pub fn finish(self) -> Result<SocFile, SocError>
+        // It stood for some bytes: the answer is what the format says of these.
+        ensures file { (bytes : List ℕ) → self ≡ stands bytes
+            → Answers (λ file. file) result (soc bytes) }
+        ensures again { (e : SocError) → self ≡ Err e → result ≡ Err e }
+    {
+        match self.stopped {
+            Some(stop) => return Err(stop),
+            None => {}
+        }
+        let SocReader {
+            alloc,
+            reader,
+            size: _,
+            stopped: _,
+        } = self;
+        let LineReader { said, line, begun } = reader;
+        close(alloc, said, line, &begun)
+    }
+}

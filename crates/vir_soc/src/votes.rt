@@ -1,0 +1,118 @@
+ghost use Rattle.std.specs.Prelude.{◌≡◌, ◌≤◌, [], None, OnOk, IfOk};
+ghost use Rattle.std.specs.List.{list_any, slice_split};
+ghost use Rattle.vir_altset.specs.Sets.{limit};
+ghost use Rattle.vir_profile.specs.Add.{member_fault_after};
+ghost use Rattle.vir_soc.specs.Steps.{Gives, stop_of};
+ghost use Rattle.vir_soc.specs.Votes.{alternative, is_brace, is_comma, order_after, with_order, with_votes};
+
+use crate::bytes::{cut, number, trim};
+use crate::kind::SocKind;
+use crate::stop::Stop;
+use std::alloc::Global;
+use vir_profile::{AddFault, AltSet, Ballot, Entry, Profile};
+
+/// The alternative that a part of an order names.
+fn alternative(m: u16, part: &[u8]) -> Result<u16, SocKind>
+    requires { m ≤ limit }
+    ensures exact { result ≡ alternative m part.now }
+    ensures range { IfOk result (λ x. (1 ≤ x) × (x ≤ m)) }
+{
+    let Some(x) = number(trim(part)) else {
+        return Err(SocKind::BadEntry);
+    };
+    if x == 0 || x > u128::from(m) {
+        return Err(SocKind::OutOfRange);
+    }
+    Ok(x as u16)
+}
+
+/// The order whose members stand between commas.
+fn order(alloc: Global, m: u16, text: &[u8]) -> Result<Vec<u16>, Stop>
+    requires { m ≤ limit }
+    ensures exact { Gives (λ order. order.items) result
+        (order_after m [] (slice_split is_comma text.now)) }
+    ensures known { IfOk result (λ order. member_fault_after m [] order.items ≡ None) }
+{
+    let mut order = Vec::with_capacity(alloc, usize::from(m))?;
+    let mut seen = AltSet::empty();
+    let mut rest = text;
+    loop {
+        let (part, after) = cut(b',', rest);
+        let x = match alternative(m, part) {
+            Ok(x) => x,
+            Err(kind) => return Err(Stop::Kind(kind)),
+        };
+        if seen.has(x) {
+            return Err(Stop::Kind(SocKind::Repeated));
+        }
+        seen.put(x);
+        order.push(x)?;
+        match after {
+            None => return Ok(order),
+            Some(after) => rest = after,
+        }
+    }
+}
+
+fn has_brace(text: &[u8]) -> bool
+    ensures { result ≡ list_any is_brace text.now }
+{
+    text.iter().any(|c| *c == b'{' || *c == b'}')
+}
+
+/// Why the profile refused a line.
+fn stop_of(fault: AddFault) -> Stop
+    ensures { result ≡ stop_of fault }
+{
+    match fault {
+        AddFault::OutOfRange => Stop::Kind(SocKind::OutOfRange),
+        AddFault::Repeated => Stop::Kind(SocKind::Repeated),
+        AddFault::Short => Stop::Kind(SocKind::Short),
+        AddFault::TooManyOrders => Stop::Kind(SocKind::TooManyOrders),
+        AddFault::TooManyVoters => Stop::Kind(SocKind::TooManyVoters),
+        AddFault::Memory => Stop::Memory,
+    }
+}
+
+/// Adds a line of this count and of an order none of whose members is at fault. A count above 2^64 is
+/// given as 2^64.
+fn add(profile: &mut Profile, count: u128, order: Vec<u16>) -> Result<(), Stop>
+    requires { member_fault_after profile.old.alternatives [] order.items ≡ None }
+    ensures exact { Gives (λ _. profile.new.lines) result
+        (with_order profile.old.alternatives profile.old.lines count order.items) }
+    ensures alternatives { OnOk result (profile.new.alternatives ≡ profile.old.alternatives) }
+{
+    let fits = count < 1 << 64;
+    let weight = if fits { count as u64 } else { 0 };
+    match profile.add(Entry {
+        weight,
+        order: Ballot::of(order),
+    }) {
+        Ok(()) => if fits {
+            Ok(())
+        } else {
+            Err(Stop::Kind(SocKind::TooManyVoters))
+        },
+        Err(refused) => Err(stop_of(refused.fault)),
+    }
+}
+
+/// Takes a line of votes.
+pub fn with_votes(alloc: Global, profile: &mut Profile, text: &[u8]) -> Result<(), Stop>
+    ensures exact { Gives (λ _. profile.new.lines) result
+        (with_votes profile.old.alternatives profile.old.lines text.now) }
+    ensures alternatives { OnOk result (profile.new.alternatives ≡ profile.old.alternatives) }
+{
+    let (before, after) = cut(b':', text);
+    let Some(rest) = after else {
+        return Err(Stop::Kind(SocKind::NoColon));
+    };
+    let Some(count) = number(trim(before)) else {
+        return Err(Stop::Kind(SocKind::BadCount));
+    };
+    if has_brace(rest) {
+        return Err(Stop::Kind(SocKind::Tie));
+    }
+    let order = order(alloc, profile.alternatives(), rest)?;
+    add(profile, count, order)
+}
