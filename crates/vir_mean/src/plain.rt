@@ -76,7 +76,7 @@ fn term_result(
 
 /// The split that a term gives of a set, a part of the profile's alternatives, by the ballots
 /// restricted to it. It restricts the ballots literally, as the definitions do, so it is slow, and
-/// takes memory for each restriction.
+/// takes memory for each restriction. On all alternatives the ballots serve as they are.
 pub fn plain_result(
     alloc: Global,
     term: &Term,
@@ -86,6 +86,9 @@ pub fn plain_result(
     ensures meaning { IfOk result (λ split. split ≡ mean (tree term.now) domain.now (restrict domain.now profile.now.lines)) }
     ensures split { IfOk result (IsSplitOf domain.now) }
 {
+    if domain.equals(&AltSet::all(profile.alternatives())) {
+        return term_result(alloc, term, profile.entries(), domain);
+    }
     let lines = restricted_lines(alloc, profile.entries(), domain)?;
     term_result(alloc, term, &lines, domain)
 }
