@@ -1,2 +1,4 @@
 pub mod SpacedLemmas
 pub mod TakenLemmas
+pub mod FedLemmas
+pub mod RefusedLemmas

@@ -2,11 +2,12 @@
 use Rattle.std.proofs.Common.{◌≡◌, ℕ, ◌+◌, List, Bool, Option, Some, inr, subst}
 use Rattle.vir_outside.specs.Shelf.{Files, TakesAtMost}
 use Rattle.virage.specs.Command.{Command, count}
-use Rattle.virage.specs.Fate.{TakesWithin, profile_limit}
+use Rattle.vir_soc.specs.Soc.{size_limit}
+use Rattle.virage.specs.Fate.{TakesWithin}
 
 -- what is taken of the profile, where the files stayed as they were
-pub takes_profile : (files later : Option Files) (rule profile : List ℕ) (selected : Bool) (rest : Option (List ℕ)) → later ≡ files → TakesAtMost later profile selected rest (profile_limit + 1) → TakesWithin files (count rule profile) selected rest
-takes_profile files later rule profile selected rest same takes = inr (subst (λ (fs : Option Files). TakesAtMost fs profile selected rest (profile_limit + 1)) same takes)
+pub takes_profile : (files later : Option Files) (rule profile : List ℕ) (selected : Bool) (rest : Option (List ℕ)) → later ≡ files → TakesAtMost later profile selected rest (size_limit + 1) → TakesWithin files (count rule profile) selected rest
+takes_profile files later rule profile selected rest same takes = inr (subst (λ (fs : Option Files). TakesAtMost fs profile selected rest (size_limit + 1)) same takes)
 
 -- words are one command at most
 pub takes_of_words : (files : Option Files) (found : Option Command) (c d : Command) (selected : Bool) (rest : Option (List ℕ)) → found ≡ Some c → found ≡ Some d → TakesWithin files c selected rest → TakesWithin files d selected rest

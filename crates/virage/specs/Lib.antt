@@ -3,9 +3,10 @@ pub mod ResultText
 pub mod Fate
 pub mod Files
 pub mod Answer
+pub mod Pieces
 pub use Rattle.vir_outside.specs.Faults
 pub use Rattle.vir_outside.specs.Shelf
 pub use Rattle.vir_outside.specs.Sink
 pub use Rattle.vir_plain_rule.specs.PlainRule
-pub use Rattle.vir_plain_profile.specs.PlainProfile
+pub use Rattle.vir_soc.specs.Soc
 pub use Rattle.vir_mean.specs.Meaning

@@ -1,14 +1,16 @@
 // The text of `count`.
-ghost use Rattle.std.specs.Prelude.{◌≡◌, ◌⊎◌, ◌≤◌, IfOk, IsErrOf, IsSome};
+ghost use Rattle.std.specs.Prelude.{◌≡◌, ◌⊎◌, ◌≤◌, IfOk, IfErr, IsErrOf, IsSome};
 ghost use Rattle.vir_altset.specs.Sets.{all};
 ghost use Rattle.vir_outside.specs.Faults.{Rose};
 ghost use Rattle.vir_term.specs.Tree.{tree};
 ghost use Rattle.vir_mean.specs.Meaning.{mean};
 ghost use Rattle.virage.specs.Command.{count};
+ghost use Rattle.virage.specs.Pieces.{IfProfileRefused};
 ghost use Rattle.virage.specs.Fate.{command_fate, count_text, lacks_file, refuses_rule, refuses_profile, has_text, TakesWithin};
 
-use crate::files::{profile_file, rule_file};
+use crate::profile_file::profile_file;
 use crate::result_text::result_text;
+use crate::rule_file::rule_file;
 use crate::stop::Stop;
 use std::alloc::{AllocError, Global};
 use vir_mean::plain_result;
@@ -40,13 +42,13 @@ pub fn text_of_count<S: Shelf>(
         ⊎ (command_fate (S.files shelf.old) (count rule_name.now profile_name.now) ≡ lacks_file) }
     ensures rule_refused { IsErrOf result Stop.RuleRefused → IsSome (S.files shelf.old)
         → command_fate (S.files shelf.old) (count rule_name.now profile_name.now) ≡ refuses_rule }
-    ensures profile_refused { IsErrOf result Stop.ProfileRefused → IsSome (S.files shelf.old)
-        → command_fate (S.files shelf.old) (count rule_name.now profile_name.now) ≡ refuses_profile }
+    ensures profile_refused { IfErr result (λ stop. IfProfileRefused stop (λ fault. IsSome (S.files shelf.old)
+        → command_fate (S.files shelf.old) (count rule_name.now profile_name.now) ≡ refuses_profile fault)) }
     ensures taken { TakesWithin (S.files shelf.old) (count rule_name.now profile_name.now) (S.selected shelf.new) (S.rest shelf.new) }
     ensures files { S.files shelf.new ≡ S.files shelf.old }
     ensures later { S.faults shelf.old ≤ S.faults shelf.new }
 {
     let rule = rule_file(alloc, shelf, rule_name)?;
-    let profile = profile_file(alloc, shelf, profile_name)?;
-    Ok(text_of_result(alloc, &rule, &profile)?)
+    let file = profile_file(alloc, shelf, profile_name)?;
+    Ok(text_of_result(alloc, &rule, file.profile())?)
 }

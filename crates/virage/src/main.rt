@@ -10,26 +10,35 @@
 
 mod command;
 mod count;
-mod files;
+mod fault_line;
+mod profile_file;
 mod result_text;
+mod rule_file;
+mod status;
 mod stop;
 #[cfg(test)]
 mod tests;
 mod top;
 
+use status::{OUT_OF_MEMORY, USAGE_FAULT};
 use std::process::ExitCode;
 use std::{env, io};
-use stop::{OUT_OF_MEMORY, USAGE_FAULT};
 use top::virage;
 use vir_outside::{FolderShelf, StreamSink};
+
+// The status where the words can't be had: one isn't text, or memory is wanting.
+fn status_of(error: &io::Error) -> u8 {
+    if error.kind() == io::ErrorKind::OutOfMemory {
+        OUT_OF_MEMORY
+    } else {
+        USAGE_FAULT
+    }
+}
 
 fn main(rt: HostRuntime) -> ExitCode {
     let words = match env::args(&rt) {
         Ok(all) => all.skip(1).collect::<Vec<String>>(rt.alloc()),
-        Err(error) if error.kind() == io::ErrorKind::OutOfMemory => return ExitCode::from(
-            OUT_OF_MEMORY,
-        ),
-        Err(_) => return ExitCode::from(USAGE_FAULT),
+        Err(error) => return ExitCode::from(status_of(&error)),
     };
     let Ok(words) = words else {
         return ExitCode::from(OUT_OF_MEMORY);

@@ -2,12 +2,7 @@ ghost use Rattle.std.specs.Prelude.{◌≡◌};
 ghost use Rattle.virage.specs.declared.stop.Stop.TheVariants.{Memory};
 
 use std::alloc::AllocError;
-
-/// The status of words that are no command.
-pub const USAGE_FAULT: u8 = 2;
-
-/// The status of a want of memory.
-pub const OUT_OF_MEMORY: u8 = 7;
+use vir_soc::SocFault;
 
 /// Why there is no text to print.
 #[derive(Clone, Copy, Debug, PartialEq, Eq)]
@@ -16,8 +11,8 @@ pub enum Stop {
     ReadFault,
     /// The rule file isn't one that is read.
     RuleRefused,
-    /// The profile isn't one that is read.
-    ProfileRefused,
+    /// The profile has this fault, and none before it.
+    ProfileRefused(SocFault),
     /// Memory is wanting.
     Memory,
 }

@@ -10,6 +10,27 @@ const PLURALITY: &[u8] = b"r = plurality;";
 
 const DIVIDED: &[u8] = b"# NUMBER ALTERNATIVES: 3\n4: 1,2,3\n3: 2,3,1\n2: 3,2,1\n";
 
+// The same votes with full metadata.
+const BOARD: &[u8] = b"# FILE NAME: 00999-00000001.soc\r
+# TITLE: Board, 2020: second round\r
+# DESCRIPTION:\r
+# DATA TYPE: soc\r
+# MODIFICATION TYPE: original\r
+# RELATES TO:\r
+# RELATED FILES:\r
+# PUBLICATION DATE: 2020-01-01\r
+# MODIFICATION DATE: 2022-09-16\r
+# NUMBER ALTERNATIVES: 3\r
+# NUMBER VOTERS: 9\r
+# NUMBER UNIQUE ORDERS: 3\r
+# ALTERNATIVE NAME 1: Ito, K.: list A\r
+# ALTERNATIVE NAME 2: Muller\r
+# ALTERNATIVE NAME 3: Ruiz\r
+4: 1,2,3\r
+3: 2,3,1\r
+2: 3,2,1\r
+";
+
 const FIRST_WINS: &[u8] = b"elected: 1\nrejected: 2 3\ndeferred:\n";
 
 fn full_shelf(alloc: Global, rule: &[u8], profile: &[u8]) -> Result<MemoryShelf, AllocError> {
@@ -38,12 +59,16 @@ fn status_of(
 fn files_are_counted_or_refused(rt: HostRuntime) -> Result<(), Fail> {
     let alloc = rt.alloc();
     let refused = b"text refused: NotPlain\n".as_slice();
-    let no_profile = b"profile refused: NotPlain\n".as_slice();
-    let loose = b"# NUMBER ALTERNATIVES: 3\n4:1,2,3\n3: 2,3,1\n2: 3,2,1\n".as_slice();
+    let loose =
+        b"\xEF\xBB\xBF# NUMBER ALTERNATIVES: 03\r\n\r\n 4 :1 ,2,\t3\n3: 2,3,1\n#\n2: 3,2,1".as_slice();
+    let short = b"# NUMBER ALTERNATIVES: 3\n3: 1,2\n3: 2,3,1\n2: 3,2,1\n".as_slice();
+    let voters =
+        b"# NUMBER VOTERS: 10\n# NUMBER ALTERNATIVES: 3\n4: 1,2,3\n3: 2,3,1\n2: 3,2,1\n".as_slice();
     let silent = b"# NUMBER ALTERNATIVES: 3\n".as_slice();
-    let table: [(&[u8], &[u8], u8, &[u8], &[u8]); 11] = [
+    let table: [(&[u8], &[u8], u8, &[u8], &[u8]); 12] = [
         (PLURALITY, DIVIDED, 0, FIRST_WINS, b""),
-        (b"r = plurality;\n", DIVIDED, 0, FIRST_WINS, b""),
+        (b"r = plurality;\n", loose, 0, FIRST_WINS, b""),
+        (PLURALITY, BOARD, 0, FIRST_WINS, b""),
         (b"r = seq(plurality,elect);", DIVIDED, 0, FIRST_WINS, b""),
         (b"r = seq(defer,plurality);", DIVIDED, 0, FIRST_WINS, b""),
         (
@@ -60,11 +85,29 @@ fn files_are_counted_or_refused(rt: HostRuntime) -> Result<(), Fail> {
             b"elected: 1 2 3\nrejected:\ndeferred:\n",
             b"",
         ),
-        (b"r = elect ;", DIVIDED, 3, b"", refused),
-        (b"r = elect ;", loose, 3, b"", refused),
+        (b"r = elect ;", short, 3, b"", refused),
         (b"", DIVIDED, 3, b"", refused),
-        (b"r = elect;", loose, 4, b"", no_profile),
-        (b"r = elect;", b"", 4, b"", no_profile),
+        (
+            b"r = elect;",
+            short,
+            4,
+            b"",
+            b"profile refused: Short at line 2\n",
+        ),
+        (
+            b"r = elect;",
+            voters,
+            4,
+            b"",
+            b"profile refused: VotersDiffer at line 1\n",
+        ),
+        (
+            b"r = elect;",
+            b"",
+            4,
+            b"",
+            b"profile refused: NoAlternativeCount at line 1\n",
+        ),
     ];
     for (rule, profile, status, text, line) in table {
         let mut shelf = full_shelf(alloc, rule, profile)?;
@@ -75,6 +118,24 @@ fn files_are_counted_or_refused(rt: HostRuntime) -> Result<(), Fail> {
         assert_eq!(rt; out.bytes(), text);
         assert_eq!(rt; err.bytes(), line);
     }
+    Ok(())
+}
+
+#[test]
+fn a_profile_is_read_in_pieces(rt: HostRuntime) -> Result<(), Fail> {
+    let alloc = rt.alloc();
+    // A comment longer than a piece stands before the votes.
+    let mut profile = vec![in alloc; b'#'; 70_000]?;
+    profile.push(b'\n')?;
+    profile.extend_from_slice(DIVIDED)?;
+    let mut shelf = full_shelf(alloc, PLURALITY, &profile)?;
+    let mut out = MemorySink::new(alloc, 8);
+    let mut err = MemorySink::new(alloc, 8);
+    let status = status_of(alloc, COUNT, &mut shelf, &mut out, &mut err)?;
+    assert_eq!(rt; status, 0);
+    assert_eq!(rt; out.bytes(), FIRST_WINS);
+    // Two files are selected; the rule is read in one piece and the profile in two, each to its end.
+    assert_eq!(rt; shelf.calls(), 7);
     Ok(())
 }
 

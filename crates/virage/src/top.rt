@@ -2,13 +2,18 @@
 ghost use Rattle.std.specs.Prelude.{◌≡◌, ◌≢◌, ◌⊎◌, ◌↔◌, ◌≤◌, ℕ, List, IsSome, map, string_bytes, Some};
 ghost use Rattle.std.specs.Io.KnownBytes.{Keeps};
 ghost use Rattle.vir_outside.specs.Faults.{Rose};
+ghost use Rattle.vir_soc.specs.declared.fault.SocFault.{SocFault};
 ghost use Rattle.virage.specs.Command.{Command, command_of};
 ghost use Rattle.virage.specs.Fate.{fate, no_command, lacks_file, refuses_rule, refuses_profile, has_text, TakesWithin};
-ghost use Rattle.virage.specs.Answer.{PrintsText, PrintsPrefix, Reports, line_of};
+ghost use Rattle.virage.specs.Answer.{PrintsText, PrintsPrefix, Reports, ReportsFault, line_of};
 
 use crate::command::read_words;
 use crate::count::text_of_count;
-use crate::stop::{OUT_OF_MEMORY, Stop, USAGE_FAULT};
+use crate::fault_line::fault_line;
+use crate::status::{
+    OUT_OF_MEMORY, PRINTED, PROFILE_REFUSED, READ_FAULT, RULE_REFUSED, USAGE_FAULT, WRITE_FAULT,
+};
+use crate::stop::Stop;
 use std::alloc::Global;
 use vir_outside::{Shelf, Sink, write_whole};
 
@@ -35,41 +40,41 @@ pub fn virage<S: Shelf, O: Sink, E: Sink>(
     err: &mut E,
 ) -> u8
     // Which status comes when.
-    ensures usage_fault { (result ≡ 2) ↔ (fate (S.files shelf.old) (map string_bytes words.now) ≡ no_command) }
-    ensures read_fault { result ≡ 5 → Rose (S.faults shelf.old) (S.faults shelf.new)
+    ensures usage_fault { (result ≡ USAGE_FAULT) ↔ (fate (S.files shelf.old) (map string_bytes words.now) ≡ no_command) }
+    ensures read_fault { result ≡ READ_FAULT → Rose (S.faults shelf.old) (S.faults shelf.new)
         ⊎ (fate (S.files shelf.old) (map string_bytes words.now) ≡ lacks_file) }
-    ensures rule_refused { result ≡ 3 → IsSome (S.files shelf.old)
+    ensures rule_refused { result ≡ RULE_REFUSED → IsSome (S.files shelf.old)
         → fate (S.files shelf.old) (map string_bytes words.now) ≡ refuses_rule }
-    ensures profile_refused { result ≡ 4 → IsSome (S.files shelf.old)
-        → fate (S.files shelf.old) (map string_bytes words.now) ≡ refuses_profile }
-    ensures write_fault { result ≡ 6 → Rose (O.faults out.old) (O.faults out.new) }
+    ensures profile_refused { result ≡ PROFILE_REFUSED → ReportsFault (S.files shelf.old) (fate (S.files shelf.old) (map string_bytes words.now))
+        (E.faults err.old) (E.faults err.new) (E.written err.old) (E.written err.new) }
+    ensures write_fault { result ≡ WRITE_FAULT → Rose (O.faults out.old) (O.faults out.new) }
     ensures statuses { (result ≤ 7) × (result ≢ 1) }
 
     // Where no count rose, the status is the one that words and files ask for, or memory was wanting.
     ensures lacks_file { fate (S.files shelf.old) (map string_bytes words.now) ≡ lacks_file
-        → Rose (S.faults shelf.old) (S.faults shelf.new) ⊎ ((result ≡ 5) ⊎ (result ≡ 7)) }
+        → Rose (S.faults shelf.old) (S.faults shelf.new) ⊎ ((result ≡ READ_FAULT) ⊎ (result ≡ OUT_OF_MEMORY)) }
     ensures refuses_rule { fate (S.files shelf.old) (map string_bytes words.now) ≡ refuses_rule
-        → Rose (S.faults shelf.old) (S.faults shelf.new) ⊎ ((result ≡ 3) ⊎ (result ≡ 7)) }
-    ensures refuses_profile { fate (S.files shelf.old) (map string_bytes words.now) ≡ refuses_profile
-        → Rose (S.faults shelf.old) (S.faults shelf.new) ⊎ ((result ≡ 4) ⊎ (result ≡ 7)) }
+        → Rose (S.faults shelf.old) (S.faults shelf.new) ⊎ ((result ≡ RULE_REFUSED) ⊎ (result ≡ OUT_OF_MEMORY)) }
+    ensures refuses_profile { (fault : SocFault) → fate (S.files shelf.old) (map string_bytes words.now) ≡ refuses_profile fault
+        → Rose (S.faults shelf.old) (S.faults shelf.new) ⊎ ((result ≡ PROFILE_REFUSED) ⊎ (result ≡ OUT_OF_MEMORY)) }
     ensures completes { (text : List ℕ) → fate (S.files shelf.old) (map string_bytes words.now) ≡ has_text text
         → (Rose (S.faults shelf.old) (S.faults shelf.new) ⊎ Rose (O.faults out.old) (O.faults out.new))
-        ⊎ ((result ≡ 0) ⊎ (result ≡ 7)) }
+        ⊎ ((result ≡ PRINTED) ⊎ (result ≡ OUT_OF_MEMORY)) }
 
     // What is printed.
-    ensures printed { result ≡ 0 → IsSome (S.files shelf.old)
+    ensures printed { result ≡ PRINTED → IsSome (S.files shelf.old)
         → PrintsText (fate (S.files shelf.old) (map string_bytes words.now)) (O.written out.old) (O.written out.new) }
-    ensures prefix { result ≡ 6 → IsSome (S.files shelf.old)
+    ensures prefix { result ≡ WRITE_FAULT → IsSome (S.files shelf.old)
         → PrintsPrefix (fate (S.files shelf.old) (map string_bytes words.now)) (O.written out.old) (O.written out.new) }
-    ensures nothing_printed { result ≢ 0 → result ≢ 6 → Keeps (O.written out.old) (O.written out.new) }
-    ensures no_line { result ≡ 0 → Keeps (E.written err.old) (E.written err.new) }
-    ensures line { result ≢ 0
+    ensures nothing_printed { result ≢ PRINTED → result ≢ WRITE_FAULT → Keeps (O.written out.old) (O.written out.new) }
+    ensures no_line { result ≡ PRINTED → Keeps (E.written err.old) (E.written err.new) }
+    ensures line { result ≢ PRINTED → result ≢ PROFILE_REFUSED
         → Reports (E.faults err.old) (E.faults err.new) (E.written err.old) (E.written err.new) (line_of result) }
 
     // What is taken of the files, which stay as they are.
     ensures taken { (command : Command) → command_of (map string_bytes words.now) ≡ Some command
         → TakesWithin (S.files shelf.old) command (S.selected shelf.new) (S.rest shelf.new) }
-    ensures untouched { result ≡ 2 → shelf.new ≡ shelf.old }
+    ensures untouched { result ≡ USAGE_FAULT → shelf.new ≡ shelf.old }
     ensures files { S.files shelf.new ≡ S.files shelf.old }
 {
     let Some(count) = read_words(words) else {
@@ -80,22 +85,28 @@ pub fn virage<S: Shelf, O: Sink, E: Sink>(
         Ok(text) => {
             if write_whole(out, &text).is_err() {
                 report(err, b"write fault\n");
-                return 6;
+                return WRITE_FAULT;
             }
-            0
+            PRINTED
         }
         Err(Stop::ReadFault) => {
             report(err, b"read fault\n");
-            5
+            READ_FAULT
         }
         Err(Stop::RuleRefused) => {
             report(err, b"text refused: NotPlain\n");
-            3
+            RULE_REFUSED
         }
-        Err(Stop::ProfileRefused) => {
-            report(err, b"profile refused: NotPlain\n");
-            4
-        }
+        Err(Stop::ProfileRefused(fault)) => match fault_line(alloc, fault) {
+            Ok(line) => {
+                report(err, &line);
+                PROFILE_REFUSED
+            }
+            Err(_) => {
+                report(err, b"out of memory\n");
+                OUT_OF_MEMORY
+            }
+        },
         Err(Stop::Memory) => {
             report(err, b"out of memory\n");
             OUT_OF_MEMORY

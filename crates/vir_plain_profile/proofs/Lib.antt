@@ -1,3 +1,0 @@
-pub mod SplitLemmas
-pub mod OrderLemmas
-pub mod LineLemmas

@@ -1,3 +1,0 @@
-pub mod PlainProfile
-pub mod Numbers
-pub mod Refusals

@@ -1,0 +1,44 @@
+use Rattle.std.proofs.Common.{◌≡◌, ℕ, ◌+◌, ◌++◌, ◌≤◌, ◌∙◌, List, None, length, take, drop, ap, sym, subst, arith}
+use Rattle.std.proofs.lemmas.Grind.{common_steps}
+use Rattle.std.proofs.lemmas.List.{take-append-le}
+use Rattle.vir_soc.specs.Answers.{Shows}
+use Rattle.vir_soc.specs.Soc.{settled, size_limit}
+use Rattle.vir_soc.specs.Stands.{stands}
+use Rattle.virage.proofs.FedLemmas.{shown_of_rest, consumes_more, settled-within, taken_with_piece, length-piece}
+use Rattle.virage.proofs.profile_file.fed_reader.Goals as goal
+
+pub returns-in-Err-clause-refused : goal.returns-in-Err-clause-refused
+returns-in-Err-clause-refused g c =
+    let so_far = c.loop-taken.invariant in
+    let buf = c.read.new.buf in
+    let fed : take c.in-Ok.count (buf ++ drop (c.min-room.result + 1) c.loop-taken.piece) ≡ take c.in-Ok.count buf = take-append-le c.in-Ok.count buf _ c.in-Ok.ensures.bound.0 in
+    rw c.stop_of.ensures
+    (shown_of_rest _ _ _ so_far.fed (take c.in-Ok.count buf) c.in-Err.error so_far.parts c.in-Ok.ensures.bytes.0
+    (subst (λ (p : List ℕ). Shows c.in-Err.error (settled (so_far.fed ++ p))) fed (c.in-Err.ensures.fault so_far.fed so_far.stands_for)))
+
+pub returns-in-Err-clause-taken : goal.returns-in-Err-clause-taken
+returns-in-Err-clause-taken g c =
+    let so_far = c.loop-taken.invariant in
+    taken_with_piece _ _ _ so_far.fed c.read.new.buf c.loop-taken.taken c.in-Ok.count so_far.parts so_far.long so_far.within
+    (record { within = c.in-Ok.ensures.bound.0; room = grind (arith, common_steps); bytes = c.in-Ok.ensures.bytes.0 })
+
+pub loop-taken-preserved : goal.loop-taken-preserved
+loop-taken-preserved g c =
+    let so_far = c.loop-taken.invariant in
+    let buf = c.read.new.buf in
+    let n = c.in-Ok.count in
+    let fed : take n (buf ++ drop (c.min-room.result + 1) c.loop-taken.piece) ≡ take n buf = take-append-le n buf _ c.in-Ok.ensures.bound.0 in
+    let after = c.in_default-feed.ensures.ok so_far.fed so_far.stands_for in
+    let long : length (so_far.fed ++ take n buf) ≡ length so_far.fed + n = length-piece so_far.fed buf n c.in-Ok.ensures.bound.0 in
+    let fine : settled (so_far.fed ++ take n buf) ≡ None = ap (λ (p : List ℕ). settled (so_far.fed ++ p)) (sym fed) ∙ after.1 in
+    let size : length (so_far.fed ++ take n buf) ≤ size_limit = settled-within (so_far.fed ++ take n buf) fine in
+    record {
+      same_files = c.in-Ok.ensures.files ∙ so_far.same_files;
+      is_selected = c.in-Ok.ensures.selected;
+      within = omega arith;
+      later = omega arith;
+      fed = so_far.fed ++ take n buf;
+      stands_for = after.0 ∙ ap (λ (p : List ℕ). stands (so_far.fed ++ p)) fed;
+      long = omega arith;
+      parts = consumes_more _ _ _ so_far.fed (take n buf) so_far.parts c.in-Ok.ensures.bytes.0;
+    }

@@ -1,0 +1,12 @@
+use Rattle.std.proofs.Common.{◌+◌, ◌-◌}
+use Rattle.vir_soc.specs.Soc.{size_limit}
+use Rattle.virage.proofs.FedLemmas.{IsFeeding}
+use Rattle.virage.proofs.profile_file.fed_reader.Given as goal
+
+abbrev pub invariant-loop-taken : goal.invariant-loop-taken
+invariant-loop-taken g l =
+    let s = g.S.Shelf in
+    IsFeeding (s.files l.fn.shelf) (s.faults l.fn.shelf) (s.rest l.fn.shelf) (s.files l.shelf) (s.selected l.shelf) (s.faults l.shelf) (s.rest l.shelf) l.taken l.reader
+
+abbrev pub decreases-loop-taken : goal.decreases-loop-taken
+decreases-loop-taken g l = size_limit + 1 - l.taken
