@@ -1,5 +1,5 @@
 // Terms on small profiles.
-use crate::plain_result;
+use crate::{meanings_are_splits, nothing_is_split_into_nothing, plain_result};
 use std::alloc::{AllocError, Global};
 use std::test::Fail;
 use vir_profile::{AltSet, Ballot, Entry, Profile, Split};
@@ -77,4 +77,10 @@ fn terms_split_the_set(rt: HostRuntime) -> Result<(), Fail> {
     let undecided = plain_result(alloc, &Term::Leaf(Leaf::Defer), &divided, &set_of(&[1, 3]))?;
     assert!(rt; is_split(&undecided, &[], &[], &[1, 3]));
     Ok(())
+}
+
+#[test]
+fn laws_can_be_called() {
+    meanings_are_splits();
+    nothing_is_split_into_nothing();
 }

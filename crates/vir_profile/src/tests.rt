@@ -1,5 +1,5 @@
-// Lines that a profile takes, and lines that it hands back.
-use crate::{AddFault, Ballot, Entry, Profile};
+// Lines that a profile takes, and lines that it hands back; files with names.
+use crate::{AddFault, Ballot, Entry, NameText, Profile, SocFile, laws};
 use std::alloc::{AllocError, Global};
 
 fn line(alloc: Global, weight: u64, order: &[u16]) -> Result<Entry, AllocError> {
@@ -44,4 +44,30 @@ fn lines_are_added_or_handed_back(rt: HostRuntime) -> Result<(), AllocError> {
     assert_eq!(rt; profile.line(0).map(|first| first.weight), Some(4));
     assert!(rt; profile.line(3).is_none());
     Ok(())
+}
+
+#[test]
+fn names_are_found_by_number(rt: HostRuntime) -> Result<(), AllocError> {
+    let alloc = rt.alloc();
+    let text = NameText::of(Vec::from_slice(alloc, b"Ruiz")?);
+    assert_eq!(rt; text.bytes(), b"Ruiz".as_slice());
+    let profile = Profile::new(alloc, 3);
+    let file = SocFile::of(profile, Vec::new(alloc));
+    assert_eq!(rt; file.profile().alternatives(), 3);
+    assert!(rt; file.names().is_empty());
+    for x in 0..4 {
+        assert!(rt; file.name(x).is_none());
+    }
+    Ok(())
+}
+
+#[test]
+fn laws_can_be_called() {
+    laws::accepted_orders();
+    laws::profiles_are_complete();
+    laws::restricted_orders();
+    laws::restricted_to_the_whole();
+    laws::restriction_keeps_pairs();
+    laws::condorcet_winner_is_unique();
+    laws::condorcet_winner_stays();
 }
