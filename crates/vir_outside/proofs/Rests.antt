@@ -13,7 +13,7 @@ pub record IsReading (told : Option Files) (limit before : ℕ) (rest : Option (
   pub parts : Consumes rest left whole
 
 -- Two reads, one after the other, are one.
-consumes_more : (rest left new : Option (List ℕ)) (whole bytes : List ℕ)
+pub consumes_more : (rest left new : Option (List ℕ)) (whole bytes : List ℕ)
     → Consumes rest left whole → Consumes left new bytes → Consumes rest new (whole ++ bytes)
 consumes_more None left new whole bytes first second = tt
 consumes_more (Some xs) None new whole bytes first second = absurd first

@@ -1,16 +1,17 @@
 -- How the bytes fed so far and what is left of a file make up what there was.
-use Rattle.std.proofs.Common.{◌≡◌, ℕ, ◌+◌, ◌-◌, ◌≤◌, Bool, true, false, cond, List, ◌++◌, length, take, nat_le, Option, None, Some, Result, Ok, Err, IfOk, IfErr, IfSome, IsSome, IsTrue, refl, sym, ap, ◌∙◌, append_assoc, arith, length-append, length-take}
+use Rattle.std.proofs.Common.{◌≡◌, ℕ, ◌+◌, ◌≤◌, Bool, true, false, cond, List, ◌++◌, length, take, nat_le, Option, None, Some, Result, Ok, Err, IfOk, IfErr, IfSome, IsSome, IsTrue, refl, sym, ap, ◌∙◌, arith, length-append, length-take}
 use Rattle.std.specs.Io.KnownBytes.{Consumes, IsAtEnd}
 use Rattle.std.proofs.lemmas.Bool.Decides.{nat_tests}
 use Rattle.std.proofs.lemmas.List.{append-nil}
 use Rattle.vir_outside.specs.Shelf.{Files, Selects}
+use Rattle.vir_outside.proofs.Rests.{consumes_more}
 use Rattle.vir_profile.specs.SocFiles.{File}
 use Rattle.vir_soc.specs.declared.fault.SocFault.{SocFault}
 use Rattle.vir_soc.specs.declared.soc_reader.SocReader.{SocReader}
 use Rattle.vir_soc.specs.declared.fault.SocError.{SocError}
 use Rattle.vir_soc.specs.declared.fault.SocError.TheVariants.{Fault, Memory}
 use Rattle.vir_soc.specs.Answers.{Shows}
-use Rattle.vir_soc.specs.Checks.{◌>>=◌, at_line, fault_of}
+use Rattle.vir_soc.specs.Checks.{◌>>=◌, fault_of}
 use Rattle.vir_soc.specs.Said.{Said}
 use Rattle.vir_soc.specs.Soc.{ended_said, settled, soc, too_long, size_limit}
 use Rattle.vir_soc.specs.Stands.{stands}
@@ -31,14 +32,6 @@ pub record IsFeeding (told : Option Files) (before : ℕ) (rest : Option (List �
   pub stands_for : reader ≡ stands fed
   pub long : taken ≡ length fed
   pub parts : Consumes rest left fed
-
--- two reads, one after the other, are one
-pub consumes_more : (rest left new : Option (List ℕ)) (fed bytes : List ℕ) → Consumes rest left fed → Consumes left new bytes → Consumes rest new (fed ++ bytes)
-consumes_more None left new fed bytes first second = tt
-consumes_more (Some xs) None new fed bytes first second = absurd first
-consumes_more (Some xs) (Some ys) None fed bytes first second = absurd second
-consumes_more (Some xs) (Some ys) (Some zs) fed bytes first second =
-    first ∙ ap (λ (ws : List ℕ). fed ++ ws) second ∙ sym (append_assoc fed bytes zs)
 
 -- at the end, the bytes fed are the rest
 pub fed_whole : (rest left : Option (List ℕ)) (fed : List ℕ) → Consumes rest left fed → IsAtEnd left → IfSome rest (λ all. all ≡ fed)
@@ -68,21 +61,6 @@ pub shown_of_rest : (rest left new : Option (List ℕ)) (fed piece : List ℕ) (
     → Shows error (settled (fed ++ piece)) → IfProfileRefused (stop_of error) (λ fault. IfSome rest (λ all. soc all ≡ Err fault))
 shown_of_rest rest left new fed piece (Fault fault) first second shown = fault_of_rest rest new (fed ++ piece) fault (consumes_more rest left new fed piece first second) shown
 shown_of_rest rest left new fed piece Memory first second shown = tt
-
--- a piece that a read gave
-pub record IsPiece (left new : Option (List ℕ)) (taken n : ℕ) (buf : List ℕ) : Type 0 where
-  pub within : n ≤ length buf
-  pub room : length buf ≤ size_limit - taken + 1
-  pub bytes : Consumes left new (take n buf)
-
--- what was taken with it
-pub taken_with_piece : (rest left new : Option (List ℕ)) (fed buf : List ℕ) (taken n : ℕ) → Consumes rest left fed → taken ≡ length fed → taken ≤ size_limit → IsPiece left new taken n buf
-    → (bytes : List ℕ) × (length bytes ≤ size_limit + 1) × Consumes rest new bytes
-taken_with_piece rest left new fed buf taken n parts long within piece = (
-  fed ++ take n buf,
-  let room = piece.room in omega (arith, length-append fed (take n buf), length-take n buf),
-  consumes_more rest left new fed (take n buf) parts piece.bytes,
-)
 
 -- how many bytes were fed with it
 pub length-piece : (fed buf : List ℕ) (n : ℕ) → n ≤ length buf → length (fed ++ take n buf) ≡ length fed + n

@@ -1,14 +1,13 @@
 -- A refused profile as what a call comes to.
-use Rattle.std.proofs.Common.{◌≡◌, ℕ, List, Bool, true, cond, Option, None, Some, Result, Ok, Err, IsSome, is_some, refl, sym, ap, subst, ◌∙◌}
+use Rattle.std.proofs.Common.{◌≡◌, ℕ, List, Bool, cond, Option, Some, IsSome, ap, subst, ◌∙◌}
 use Rattle.vir_outside.specs.Shelf.{Files, told_content}
 use Rattle.vir_soc.specs.declared.fault.SocFault.{SocFault}
-use Rattle.vir_soc.specs.Soc.{soc}
 use Rattle.vir_term.specs.Tree.{Tree}
 use Rattle.virage.specs.declared.stop.Stop.{Stop}
 use Rattle.virage.specs.declared.stop.Stop.TheVariants as stop
 use Rattle.virage.specs.Answer.{Reports, ReportsFault, fault_line}
 use Rattle.virage.specs.Command.{Command, count, command_of}
-use Rattle.virage.specs.Fate.{Fate, untold, command_fate, count_fate, rule_fate, profile_fate, words_fate, fate, refuses_profile, rule_of}
+use Rattle.virage.specs.Fate.{untold, command_fate, count_fate, rule_fate, profile_fate, words_fate, fate, refuses_profile}
 use Rattle.virage.specs.Files.{IsRule, IsNoProfile}
 use Rattle.virage.specs.Pieces.{IfProfileRefused}
 

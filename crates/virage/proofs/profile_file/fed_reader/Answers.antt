@@ -4,7 +4,8 @@ use Rattle.std.proofs.lemmas.List.{take-append-le}
 use Rattle.vir_soc.specs.Answers.{Shows}
 use Rattle.vir_soc.specs.Soc.{settled, size_limit}
 use Rattle.vir_soc.specs.Stands.{stands}
-use Rattle.virage.proofs.FedLemmas.{shown_of_rest, consumes_more, settled-within, taken_with_piece, length-piece}
+use Rattle.vir_outside.proofs.Rests.{consumes_more, taken_more}
+use Rattle.virage.proofs.FedLemmas.{shown_of_rest, settled-within, length-piece}
 use Rattle.virage.proofs.profile_file.fed_reader.Goals as goal
 
 pub returns-in-Err-clause-refused : goal.returns-in-Err-clause-refused
@@ -19,8 +20,7 @@ returns-in-Err-clause-refused g c =
 pub returns-in-Err-clause-taken : goal.returns-in-Err-clause-taken
 returns-in-Err-clause-taken g c =
     let so_far = c.loop-taken.invariant in
-    taken_with_piece _ _ _ so_far.fed c.read.new.buf c.loop-taken.taken c.in-Ok.count so_far.parts so_far.long so_far.within
-    (record { within = c.in-Ok.ensures.bound.0; room = grind (arith, common_steps); bytes = c.in-Ok.ensures.bytes.0 })
+    taken_more _ _ _ so_far.fed c.read.new.buf c.in-Ok.count size_limit so_far.parts c.in-Ok.ensures.bytes.0 (omega arith) (grind (arith, common_steps))
 
 pub loop-taken-preserved : goal.loop-taken-preserved
 loop-taken-preserved g c =
