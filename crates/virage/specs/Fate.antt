@@ -73,3 +73,7 @@ fate files words = words_fate files (command_of words)
 abbrev pub TakesWithin : Option Files → Command → Bool → Option (List ℕ) → Type 0
 TakesWithin files (count rule profile) selected rest =
     TakesAtMost files rule selected rest (rule_limit + 1) ⊎ TakesAtMost files profile selected rest (size_limit + 1)
+
+-- Of the rule file of a command, which was selected last, at most one byte more than its limit is taken.
+abbrev pub TakesRule : Option Files → Command → Bool → Option (List ℕ) → Type 0
+TakesRule files (count rule profile) selected rest = TakesAtMost files rule selected rest (rule_limit + 1)

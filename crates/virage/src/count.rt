@@ -6,7 +6,7 @@ ghost use Rattle.vir_term.specs.Tree.{tree};
 ghost use Rattle.vir_mean.specs.Meaning.{mean};
 ghost use Rattle.virage.specs.Command.{count};
 ghost use Rattle.virage.specs.Pieces.{IfProfileRefused};
-ghost use Rattle.virage.specs.Fate.{command_fate, count_text, lacks_file, refuses_rule, refuses_profile, has_text, TakesWithin};
+ghost use Rattle.virage.specs.Fate.{command_fate, count_text, lacks_file, refuses_rule, refuses_profile, has_text, TakesRule, TakesWithin};
 
 use crate::profile_file::profile_file;
 use crate::result_text::result_text;
@@ -45,6 +45,8 @@ pub fn text_of_count<S: Shelf>(
     ensures profile_refused { IfErr result (λ stop. IfProfileRefused stop (λ fault. IsSome (S.files shelf.old)
         → command_fate (S.files shelf.old) (count rule_name.now profile_name.now) ≡ refuses_profile fault)) }
     ensures taken { TakesWithin (S.files shelf.old) (count rule_name.now profile_name.now) (S.selected shelf.new) (S.rest shelf.new) }
+    ensures rule_first { IsErrOf result Stop.RuleRefused
+        → TakesRule (S.files shelf.old) (count rule_name.now profile_name.now) (S.selected shelf.new) (S.rest shelf.new) }
     ensures files { S.files shelf.new ≡ S.files shelf.old }
     ensures later { S.faults shelf.old ≤ S.faults shelf.new }
 {

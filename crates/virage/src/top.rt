@@ -4,7 +4,7 @@ ghost use Rattle.std.specs.Io.KnownBytes.{Keeps};
 ghost use Rattle.vir_outside.specs.Faults.{Rose};
 ghost use Rattle.vir_soc.specs.declared.fault.SocFault.{SocFault};
 ghost use Rattle.virage.specs.Command.{Command, command_of};
-ghost use Rattle.virage.specs.Fate.{fate, no_command, lacks_file, refuses_rule, refuses_profile, has_text, TakesWithin};
+ghost use Rattle.virage.specs.Fate.{fate, no_command, lacks_file, refuses_rule, refuses_profile, has_text, TakesRule, TakesWithin};
 ghost use Rattle.virage.specs.Answer.{PrintsText, PrintsPrefix, Reports, ReportsFault, line_of};
 
 use crate::command::read_words;
@@ -74,6 +74,11 @@ pub fn virage<S: Shelf, O: Sink, E: Sink>(
     // What is taken of the files, which stay as they are.
     ensures taken { (command : Command) → command_of (map string_bytes words.now) ≡ Some command
         → TakesWithin (S.files shelf.old) command (S.selected shelf.new) (S.rest shelf.new) }
+
+    // A refused rule file is the file that was selected last: the profile isn't read.
+    ensures rule_first { result ≡ RULE_REFUSED
+        → (command : Command) → command_of (map string_bytes words.now) ≡ Some command
+        → TakesRule (S.files shelf.old) command (S.selected shelf.new) (S.rest shelf.new) }
     ensures untouched { result ≡ USAGE_FAULT → shelf.new ≡ shelf.old }
     ensures files { S.files shelf.new ≡ S.files shelf.old }
 {
