@@ -8,6 +8,8 @@
 //! words and the files (`specs/Fate.antt`). It stands on all other crates.
 #![tactic(auto)]
 
+ghost use Rattle.std.specs.Prelude.{◌≡◌, ◌⊎◌};
+
 mod command;
 mod count;
 mod fault_line;
@@ -27,7 +29,9 @@ use top::virage;
 use vir_outside::{FolderShelf, StreamSink};
 
 // The status where the words can't be had: one isn't text, or memory is wanting.
-fn status_of(error: &io::Error) -> u8 {
+fn status_of(error: &io::Error) -> u8
+    ensures { (result ≡ OUT_OF_MEMORY) ⊎ (result ≡ USAGE_FAULT) }
+{
     if error.kind() == io::ErrorKind::OutOfMemory {
         OUT_OF_MEMORY
     } else {
