@@ -8,7 +8,9 @@
 //! three empty sets (`laws.rt`). It stands on `vir_profile` and `vir_term`.
 #![tactic(auto)]
 
+mod compositions;
 mod laws;
+mod modules;
 mod plain;
 mod plurality;
 mod restriction;

@@ -1,57 +1,16 @@
 // The meaning of a term, by recursion on it and by restricted ballots.
 ghost use Rattle.std.specs.Prelude.{◌≡◌, ◌<◌, ◌^◌, IfOk};
-ghost use Rattle.std.specs.FinSet as set;
 ghost use Rattle.vir_altset.specs.Splits.{IsSplitOf};
 ghost use Rattle.vir_profile.specs.Profiles.{restrict, total_weight};
 ghost use Rattle.vir_term.specs.Tree.{tree};
-ghost use Rattle.vir_mean.specs.Modules.{leaf_mean};
-ghost use Rattle.vir_mean.specs.Compositions.{joined};
 ghost use Rattle.vir_mean.specs.Meaning.{mean};
 
-use crate::plurality::plurality_winners;
+use crate::compositions::joined;
+use crate::modules::leaf_result;
 use crate::restriction::restricted_lines;
 use std::alloc::{AllocError, Global};
 use vir_profile::{AltSet, Entry, Profile, Split};
-use vir_term::{Leaf, Term};
-
-// The split that a module gives.
-fn leaf_result(leaf: Leaf, lines: &[Entry], domain: &AltSet) -> Split
-    requires { total_weight lines.now < 2 ^ 64 }
-    ensures { result ≡ leaf_mean leaf domain.now lines.now }
-{
-    let none = AltSet::empty();
-    match leaf {
-        Leaf::Elect => Split {
-            elected: *domain,
-            rejected: none,
-            deferred: none,
-        },
-        Leaf::Defer => Split {
-            elected: none,
-            rejected: none,
-            deferred: *domain,
-        },
-        Leaf::Plurality => {
-            let elected = plurality_winners(lines, domain);
-            Split {
-                elected,
-                rejected: domain.minus(&elected),
-                deferred: none,
-            }
-        }
-    }
-}
-
-// A split, and one of what it defers, as one.
-fn joined(first: &Split, second: &Split) -> Split
-    ensures { result ≡ joined first.now second.now }
-{
-    Split {
-        elected: first.elected.union(&second.elected),
-        rejected: first.rejected.union(&second.rejected),
-        deferred: second.deferred,
-    }
-}
+use vir_term::Term;
 
 // The split that a term gives.
 fn term_result(
@@ -64,7 +23,7 @@ fn term_result(
     ensures { IfOk result (λ split. split ≡ mean (tree term.now) domain.now lines.now) }
 {
     match term {
-        Term::Leaf(leaf) => Ok(leaf_result(*leaf, lines, domain)),
+        Term::Leaf(leaf) => Ok(leaf_result(leaf, lines, domain)),
         Term::Seq(first, second) => {
             let decided = term_result(alloc, first, lines, domain)?;
             let left = restricted_lines(alloc, lines, &decided.deferred)?;

@@ -54,7 +54,8 @@ pub fn read_whole<S: Shelf>(
         ⊎ Rose (S.faults shelf.old) (S.faults shelf.new)
         ⊎ IsErrOf result ReadStop.Memory) }
 
-    // What the call leaves.
+    // What the call leaves: the file is selected, unless it can't be read.
+    ensures selected { IsErrOf result ReadStop.Fault ⊎ IsTrue (S.selected shelf.new) }
     ensures taken { TakesAtMost (S.files shelf.old) name.now
         (S.selected shelf.new) (S.rest shelf.new) (limit + 1) }
     ensures files { S.files shelf.new ≡ S.files shelf.old }
@@ -73,6 +74,7 @@ fn read_selected<S: Shelf>(alloc: Global, shelf: &mut S, limit: usize) -> Result
     ensures too_long { IsErrOf result ReadStop.TooLong → IfSome (S.rest shelf.old) (λ rest. limit < length rest) }
     ensures taken { (bytes : List ℕ) × (length bytes ≤ limit + 1)
         × Consumes (S.rest shelf.old) (S.rest shelf.new) bytes }
+    ensures selected { IsTrue (S.selected shelf.new) }
     ensures files { S.files shelf.new ≡ S.files shelf.old }
     ensures later { S.faults shelf.old ≤ S.faults shelf.new }
 {

@@ -1,10 +1,13 @@
 -- Which texts are plain rule files, and the term of each.
-use Rattle.std.specs.Prelude.{ℕ, ◌-◌, List, [], ◌∷◌, ◌++◌, length, take, drop, map, Option, if◌then◌else◌, codes}
+use Rattle.std.specs.Prelude.{ℕ, ◌-◌, List, [], ◌∷◌, ◌++◌, length, take, drop, map, Option, Result, if◌then◌else◌, codes}
 use Rattle.std.specs.List.{find, flat_map}
+use Rattle.std.specs.Option.{ok_or}
 use Rattle.std.specs.Str.{bytes_eq}
 use Rattle.vir_term.specs.declared.leaf.Leaf.{Leaf}
 use Rattle.vir_term.specs.declared.leaf.Leaf.TheVariants.{Elect, Defer, Plurality}
 use Rattle.vir_term.specs.Tree.{Tree, leaf, seq}
+use Rattle.vir_plain_rule.specs.declared.refusal.RuleRefusal.{RuleRefusal}
+use Rattle.vir_plain_rule.specs.declared.refusal.RuleRefusal.TheVariants.{NotPlain}
 
 -- the modules
 abbrev pub leaves : List Leaf
@@ -37,6 +40,6 @@ without_line_feed text = if bytes_eq (drop (length text - 1) text) (codes "\n") 
 abbrev pub term_of_file : List ℕ → Option Tree
 term_of_file line = find (λ t. bytes_eq line (file_text t)) plain_terms
 
--- the term of a plain rule file, which ends by at most one line feed
-abbrev pub plain_rule : List ℕ → Option Tree
-plain_rule text = term_of_file (without_line_feed text)
+-- the term of a plain rule file, which ends by at most one line feed; every other text is refused
+abbrev pub plain_rule : List ℕ → Result Tree RuleRefusal
+plain_rule text = ok_or (term_of_file (without_line_feed text)) NotPlain

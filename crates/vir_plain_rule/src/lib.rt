@@ -12,4 +12,4 @@ mod refusal;
 mod tests;
 
 pub use plain::read_rule;
-pub use refusal::RuleRefusal;
+pub use refusal::{RuleError, RuleRefusal};

@@ -1,29 +1,30 @@
-ghost use Rattle.std.specs.Prelude.{◌≡◌, IfOk, IsErrOf, Some, None};
+ghost use Rattle.std.specs.Prelude.{◌≡◌, IfOk, IsErrOf, Ok, Err};
 ghost use Rattle.std.specs.Option.{option_map};
 ghost use Rattle.vir_term.specs.Tree.{tree};
 ghost use Rattle.vir_term.specs.Limits.{IsWithinLimits};
+ghost use Rattle.vir_plain_rule.specs.declared.refusal.RuleRefusal.{RuleRefusal};
 ghost use Rattle.vir_plain_rule.specs.PlainRule.{plain_rule, term_of_file, without_line_feed};
 ghost use Rattle.vir_plain_rule.specs.Plain.{plain_tree};
 
-use crate::refusal::RuleRefusal;
+use crate::refusal::{RuleError, RuleRefusal};
 use std::alloc::Global;
 use vir_term::{Leaf, Term};
 
 /// A plain term.
-#[derive(Clone, Copy)]
+#[derive(Drop)]
 enum Plain {
     Module(Leaf),
     Sequence(Leaf, Leaf),
 }
 
 /// The term of a plain rule file: `r = `, a plain term and `;`, with at most one line feed behind.
-pub fn read_rule(alloc: Global, text: &[u8]) -> Result<Term, RuleRefusal>
-    ensures accepted { IfOk result (λ term. plain_rule text.now ≡ Some (tree term)) }
+pub fn read_rule(alloc: Global, text: &[u8]) -> Result<Term, RuleError>
+    ensures accepted { IfOk result (λ term. plain_rule text.now ≡ Ok (tree term)) }
     ensures limits { IfOk result (λ term. IsWithinLimits (tree term)) }
-    ensures refused { IsErrOf result RuleRefusal.NotPlain → plain_rule text.now ≡ None }
+    ensures refused { (refusal : RuleRefusal) → IsErrOf result (RuleError.Refused refusal) → plain_rule text.now ≡ Err refusal }
 {
     match plain_term(line(text)) {
-        None => Err(RuleRefusal::NotPlain),
+        None => Err(RuleError::Refused(RuleRefusal::NotPlain)),
         Some(Plain::Module(leaf)) => Ok(Term::Leaf(leaf)),
         Some(Plain::Sequence(first, second)) => {
             let first = Box::new(alloc, Term::Leaf(first))?;

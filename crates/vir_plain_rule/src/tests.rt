@@ -1,9 +1,9 @@
 // Texts of rules that are plain, and texts beside them.
-use crate::{RuleRefusal, read_rule};
+use crate::{RuleError, RuleRefusal, read_rule};
 use vir_term::{Leaf, Term};
 
 #[test]
-fn plain_rules_alone_are_read(rt: HostRuntime) -> Result<(), RuleRefusal> {
+fn plain_rules_alone_are_read(rt: HostRuntime) -> Result<(), RuleError> {
     let alloc = rt.alloc();
     let table: [(&[u8], bool); 14] = [
         (b"r = elect;", true),
@@ -26,7 +26,7 @@ fn plain_rules_alone_are_read(rt: HostRuntime) -> Result<(), RuleRefusal> {
             Ok(term) => assert!(rt; is_plain && term.within_limits()),
             Err(refusal) => {
                 assert!(rt; !is_plain);
-                assert_eq!(rt; refusal, RuleRefusal::NotPlain);
+                assert!(rt; refusal == RuleError::Refused(RuleRefusal::NotPlain));
             }
         }
     }

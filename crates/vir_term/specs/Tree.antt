@@ -19,7 +19,7 @@ abbrev pub size : Tree → ℕ
 size (leaf l) = 1
 size (seq first second) = 1 + size first + size second
 
--- 1 for a l, and for a composition 1 more than its deepest part
+-- 1 for a module, and for a composition 1 more than its deepest part
 abbrev pub nesting : Tree → ℕ
 nesting (leaf l) = 1
 nesting (seq first second) = 1 + max (nesting first) (nesting second)

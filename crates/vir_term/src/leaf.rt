@@ -1,6 +1,6 @@
 /// An electoral module that isn't composed: a leaf of a term. Each is handed a set of alternatives
 /// and the ballots restricted to it.
-#[derive(Clone, Copy, Debug, PartialEq, Eq)]
+#[derive(Debug, PartialEq, Eq, Drop)]
 pub enum Leaf {
     /// Elects every alternative.
     Elect,

@@ -3,8 +3,8 @@
 //! A rule is built of electoral modules by composition, as in Diekhoff, Kirsten and Krämer,
 //! "Verified Construction of Fair Voting Rules" (LOPSTR 2019). This layer knows how such a term is
 //! built and how large it is; what it elects is the business of `vir_mean`. Its one contract: a
-//! `Term` is seen as a pure tree (`specs/Tree.antt`), whose size and nesting are told exactly, and
-//! `within_limits` is the test of the limits that each other call on a term has as its condition.
+//! `Term` is seen as a pure tree (`specs/Tree.antt`), whose size is told exactly, and
+//! `within_limits` tells of any term whether its size and its nesting are within the limits.
 //! It stands on std alone.
 #![tactic(auto)]
 

@@ -31,8 +31,7 @@ impl Term {
         }
     }
 
-    /// Whether the term is within the limits of size and nesting. It is the only call on a term
-    /// that asks for nothing.
+    /// Whether the term is within the limits of size and nesting. It asks for nothing of the term.
     pub fn within_limits(&self) -> bool
         ensures { IsTrue result ↔ IsWithinLimits (tree self.now) }
     {

@@ -1,5 +1,5 @@
 -- How the bytes fed so far and what is left of a file make up what there was.
-use Rattle.std.proofs.Common.{◌≡◌, ℕ, ◌+◌, ◌≤◌, Bool, true, false, cond, List, ◌++◌, length, take, nat_le, Option, None, Some, Result, Ok, Err, IfOk, IfErr, IfSome, IsSome, IsTrue, refl, sym, ap, ◌∙◌, arith, length-append, length-take}
+use Rattle.std.proofs.Common.{◌≡◌, ℕ, ◌+◌, ◌≤◌, Bool, true, false, cond, List, ◌++◌, length, take, nat_le, Option, None, Some, Result, Ok, Err, IfOk, IfErr, IfSome, IsSome, IsTrue, refl, sym, ap, ◌∙◌, arith, inl, length-append, length-take}
 use Rattle.std.specs.Io.KnownBytes.{Consumes, IsAtEnd}
 use Rattle.std.proofs.lemmas.Bool.Decides.{nat_tests}
 use Rattle.std.proofs.lemmas.List.{append-nil}
@@ -16,10 +16,10 @@ use Rattle.vir_soc.specs.Said.{Said}
 use Rattle.vir_soc.specs.Soc.{ended_said, settled, soc, too_long, size_limit}
 use Rattle.vir_soc.specs.Stands.{stands}
 use Rattle.vir_soc.proofs.StandLemmas.{fault_stays}
-use Rattle.virage.specs.declared.stop.Stop.TheVariants as stop
-use Rattle.virage.specs.declared.stop.Stop.{Stop}
-use Rattle.virage.specs.Files.{IsProfileFile, IsNoProfile}
-use Rattle.virage.specs.Pieces.{IfProfileRefused, stop_of}
+use Rattle.virage.specs.declared.file_stop.FileStop.{FileStop}
+use Rattle.virage.specs.declared.file_stop.FileStop.TheVariants as file
+use Rattle.virage.specs.Feeding.{StopsRest, file_stop_of}
+use Rattle.virage.specs.Files.{FileSays, Reads}
 
 -- A loop has fed so many bytes of a rest to a reader, from a shelf that told these files.
 pub record IsFeeding (told : Option Files) (before : ℕ) (rest : Option (List ℕ))
@@ -57,53 +57,39 @@ settled-within bytes none = elim (nat_le (length bytes) size_limit) as (λ b. na
 ] refl
 
 -- the fault that a reader shows at a piece is that of the rest
-pub shown_of_rest : (rest left new : Option (List ℕ)) (fed piece : List ℕ) (error : SocError) → Consumes rest left fed → Consumes left new piece
-    → Shows error (settled (fed ++ piece)) → IfProfileRefused (stop_of error) (λ fault. IfSome rest (λ all. soc all ≡ Err fault))
-shown_of_rest rest left new fed piece (Fault fault) first second shown = fault_of_rest rest new (fed ++ piece) fault (consumes_more rest left new fed piece first second) shown
-shown_of_rest rest left new fed piece Memory first second shown = tt
+pub shown_of_rest : (rest left new : Option (List ℕ)) (fed piece : List ℕ) (rose : Type 0) (error : SocError) → Consumes rest left fed → Consumes left new piece
+    → Shows error (settled (fed ++ piece)) → StopsRest rest rose (file_stop_of error)
+shown_of_rest rest left new fed piece rose (Fault fault) first second shown = fault_of_rest rest new (fed ++ piece) fault (consumes_more rest left new fed piece first second) shown
+shown_of_rest rest left new fed piece rose Memory first second shown = tt
 
 -- how many bytes were fed with it
 pub length-piece : (fed buf : List ℕ) (n : ℕ) → n ≤ length buf → length (fed ++ take n buf) ≡ length fed + n
 length-piece fed buf n within = omega (arith, length-append fed (take n buf), length-take n buf)
-
--- what the rest of a selected file says is what the file says
-pub profile_of_rest : (files : Option Files) (name : List ℕ) (rest : Option (List ℕ)) (file : File) → Selects files name rest → IfSome rest (λ all. soc all ≡ Ok file) → IsSome files → IsProfileFile files name file
-profile_of_rest files name None file selects says told = absurd (let known = (selects told).0 in cc)
-profile_of_rest files name (Some all) file selects says told = record { bytes = all; content = (selects told).1; accepted = says }
-
-pub fault_of_rest_told : (files : Option Files) (name : List ℕ) (rest : Option (List ℕ)) (fault : SocFault) → Selects files name rest → IfSome rest (λ all. soc all ≡ Err fault) → IsSome files → IsNoProfile files name fault
-fault_of_rest_told files name None fault selects says told = absurd (let known = (selects told).0 in cc)
-fault_of_rest_told files name (Some all) fault selects says told = record { bytes = all; content = (selects told).1; refused = says }
-
--- and where it is refused, so is the file
-pub refused_of_rest : (files : Option Files) (name : List ℕ) (rest : Option (List ℕ)) (s : Stop) → Selects files name rest → IfProfileRefused s (λ fault. IfSome rest (λ all. soc all ≡ Err fault))
-    → IfProfileRefused s (λ fault. IsSome files → IsNoProfile files name fault)
-refused_of_rest files name rest (stop.ProfileRefused fault) selects says = fault_of_rest_told files name rest fault selects says
-refused_of_rest files name rest stop.RuleRefused selects says = tt
-refused_of_rest files name rest stop.ReadFault selects says = tt
-refused_of_rest files name rest stop.Memory selects says = tt
 
 -- what a reader says that stands for the rest
 pub file_of_fed : (rest : Option (List ℕ)) (bytes : List ℕ) (file : File) → IfSome rest (λ all. all ≡ bytes) → soc bytes ≡ Ok file → IfSome rest (λ all. soc all ≡ Ok file)
 file_of_fed None bytes file told says = tt
 file_of_fed (Some all) bytes file told says = ap soc told ∙ says
 
-pub fault_of_fed : (rest : Option (List ℕ)) (bytes : List ℕ) (fault : SocFault) → IfSome rest (λ all. all ≡ bytes) → soc bytes ≡ Err fault → IfSome rest (λ all. soc all ≡ Err fault)
+fault_of_fed : (rest : Option (List ℕ)) (bytes : List ℕ) (fault : SocFault) → IfSome rest (λ all. all ≡ bytes) → soc bytes ≡ Err fault → IfSome rest (λ all. soc all ≡ Err fault)
 fault_of_fed None bytes fault told says = tt
 fault_of_fed (Some all) bytes fault told says = ap soc told ∙ says
 
-pub refused_of_fed : (rest : Option (List ℕ)) (bytes : List ℕ) (s : Stop) → IfSome rest (λ all. all ≡ bytes) → IfProfileRefused s (λ fault. soc bytes ≡ Err fault) → IfProfileRefused s (λ fault. IfSome rest (λ all. soc all ≡ Err fault))
-refused_of_fed rest bytes (stop.ProfileRefused fault) told says = fault_of_fed rest bytes fault told says
-refused_of_fed rest bytes stop.RuleRefused told says = tt
-refused_of_fed rest bytes stop.ReadFault told says = tt
-refused_of_fed rest bytes stop.Memory told says = tt
+-- and why it stops
+pub stops_of_fed : (rest : Option (List ℕ)) (bytes : List ℕ) (rose : Type 0) (answer : Result File (FileStop SocFault)) → IfSome rest (λ all. all ≡ bytes) → IfErr answer (StopsRest (Some bytes) ⊥) → IfErr answer (StopsRest rest rose)
+stops_of_fed rest bytes rose (Ok f) told says = tt
+stops_of_fed rest bytes rose (Err file.Fault) told says = absurd says
+stops_of_fed rest bytes rose (Err (file.Refused fault)) told says = fault_of_fed rest bytes fault told says
+stops_of_fed rest bytes rose (Err file.Memory) told says = tt
 
-pub profile_answered : (files : Option Files) (name : List ℕ) (rest : Option (List ℕ)) (answer : Result File Stop) → Selects files name rest → IfOk answer (λ file. IfSome rest (λ all. soc all ≡ Ok file))
-    → IfOk answer (λ file. IsSome files → IsProfileFile files name file)
-profile_answered files name rest (Ok file) selects says = profile_of_rest files name rest file selects says
-profile_answered files name rest (Err s) selects says = tt
+-- what the rest of a selected file says is what the file says
+says_of_rest : (files : Option Files) (name : List ℕ) (rest : Option (List ℕ)) (answer : Result File SocFault) → Selects files name rest → IfSome rest (λ all. soc all ≡ answer) → IsSome files → FileSays soc files name answer
+says_of_rest files name None answer selects says told = absurd (let known = (selects told).0 in cc)
+says_of_rest files name (Some all) answer selects says told = record { bytes = all; content = (selects told).1; says = says }
 
-pub refusal_answered : (files : Option Files) (name : List ℕ) (rest : Option (List ℕ)) (answer : Result File Stop) → Selects files name rest → IfErr answer (λ s. IfProfileRefused s (λ fault. IfSome rest (λ all. soc all ≡ Err fault)))
-    → IfErr answer (λ s. IfProfileRefused s (λ fault. IsSome files → IsNoProfile files name fault))
-refusal_answered files name rest (Ok file) selects says = tt
-refusal_answered files name rest (Err s) selects says = refused_of_rest files name rest s selects says
+pub reads_of_rest : (files : Option Files) (name : List ℕ) (rest : Option (List ℕ)) (late_rose rose : Type 0) (answer : Result File (FileStop SocFault)) → (late_rose → rose) → Selects files name rest → IfOk answer (λ f. IfSome rest (λ all. soc all ≡ Ok f))
+    → IfErr answer (StopsRest rest late_rose) → Reads soc (λ (f : File). f) files name rose answer
+reads_of_rest files name rest late_rose rose (Ok f) later selects says stops = says_of_rest files name rest (Ok f) selects says
+reads_of_rest files name rest late_rose rose (Err file.Fault) later selects says stops = inl (later stops)
+reads_of_rest files name rest late_rose rose (Err (file.Refused fault)) later selects says stops = says_of_rest files name rest (Err fault) selects stops
+reads_of_rest files name rest late_rose rose (Err file.Memory) later selects says stops = tt

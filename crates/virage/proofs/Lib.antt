@@ -1,4 +1,5 @@
 pub mod SpacedLemmas
-pub mod TakenLemmas
 pub mod FedLemmas
-pub mod RefusedLemmas
+pub mod WritesLemmas
+pub mod LeaveLemmas
+pub mod DeliverLemmas

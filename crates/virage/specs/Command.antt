@@ -2,6 +2,8 @@
 use Rattle.std.specs.Prelude.{ℕ, List, [], ◌∷◌, None, Some, codes, if◌then◌else◌}
 use Rattle.std.specs.Str.{bytes_eq}
 use Rattle.std.specs.declared.option.Option.{Option}
+use Rattle.virage.specs.declared.command.Command.{Command as Borrowed}
+use Rattle.virage.specs.declared.command.Command.TheVariants.{Count}
 
 -- a command
 pub data Command : Type 0 where
@@ -15,3 +17,16 @@ command_of (first ∷ []) = None
 command_of (first ∷ rule ∷ []) = None
 command_of (first ∷ rule ∷ profile ∷ []) = if bytes_eq first (codes "count") then Some (count rule profile) else None
 command_of (first ∷ rule ∷ profile ∷ more ∷ rest) = None
+
+-- a command of the code, which borrows its names
+abbrev pub command_seen : Borrowed → Command
+command_seen (Count rule profile) = count rule.now profile.now
+
+-- The commands that can have a negative answer.
+abbrev pub CanDeny : Command → Type 0
+CanDeny (count rule profile) = ⊥
+
+-- The words are such a command.
+abbrev pub AskDenial : Option Command → Type 0
+AskDenial None = ⊥
+AskDenial (Some command) = CanDeny command

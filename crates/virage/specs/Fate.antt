@@ -1,79 +1,73 @@
--- What a call comes to by its words and the files, device faults and want of memory aside.
-use Rattle.std.specs.Prelude.{◌⊎◌, ℕ, ◌+◌, Bool, List, length, None, Some, Result, Ok, Err, is_some, nat_le, if◌then◌else◌}
+-- What a call comes to by its words and what it is given, device faults and want of memory aside.
+use Rattle.std.specs.Prelude.{◌≡◌, ◌⊎◌, ℕ, List, None, Some, IsTrue, Result, Ok, Err, is_some, if◌then◌else◌}
 use Rattle.std.specs.declared.option.Option.{Option}
 use Rattle.vir_altset.specs.Sets.{all}
-use Rattle.vir_outside.specs.Shelf.{Files, told_content, TakesAtMost}
+use Rattle.vir_outside.specs.Shelf.{Files, told_content}
 use Rattle.vir_profile.specs.Profiles.{Votes}
 use Rattle.vir_profile.specs.SocFiles.{File}
-use Rattle.vir_soc.specs.declared.fault.SocFault.{SocFault}
-use Rattle.vir_soc.specs.Soc.{soc, size_limit}
+use Rattle.vir_soc.specs.Soc.{soc}
 use Rattle.vir_term.specs.Tree.{Tree}
 use Rattle.vir_mean.specs.Meaning.{mean}
-use Rattle.vir_plain_rule.specs.PlainRule.{plain_rule}
+use Rattle.virage.specs.declared.stop.Stop.{Stop}
+use Rattle.virage.specs.declared.stop.Stop.TheVariants as stop
 use Rattle.virage.specs.Command.{Command, count, command_of}
+use Rattle.virage.specs.Files.{rule_of}
 use Rattle.virage.specs.ResultText.{result_text}
+use Rattle.virage.specs.Stops.{refused_rule, refused_profile}
 
--- the greatest length of a rule file, in bytes
-abbrev pub rule_limit : ℕ
-rule_limit = 1048576
+-- What a call is given beside its words: the files of the shelf, where it tells them.
+pub record Given : Type 0 where
+  pub files : Option Files
 
--- the term of a rule file, where it is accepted
-abbrev pub rule_of : List ℕ → Option Tree
-rule_of bytes = if nat_le (length bytes) rule_limit then plain_rule bytes else None
+abbrev pub given : Option Files → Given
+given files = record { files = files }
 
 pub data Fate : Type 0 where
-  -- the words are no command
-  no_command : Fate
   -- the shelf doesn't tell its files
   untold : Fate
-  -- a file that the command comes to is missing
-  lacks_file : Fate
-  -- the rule file is refused
-  refuses_rule : Fate
-  -- the rule file is accepted, and the profile is refused, with its first fault
-  refuses_profile : SocFault → Fate
-  -- the files are accepted, and this is the text
-  has_text : List ℕ → Fate
+  -- no text is printed, for this reason
+  stops : Stop → Fate
+  -- this text is printed
+  prints : List ℕ → Fate
+  -- this text, a negative answer, is printed
+  denies : List ℕ → Fate
+
+-- by what a file says
+abbrev pub said_fate : {T F : Type 0} → (F → Stop) → (T → Fate) → Result T F → Fate
+said_fate refused goes_on (Ok value) = goes_on value
+said_fate refused goes_on (Err fault) = stops (refused fault)
+
+-- by the content of a file, which is read so
+abbrev pub content_fate : {T F : Type 0} → (List ℕ → Result T F) → (F → Stop) → (T → Fate) → Option (List ℕ) → Fate
+content_fate read refused goes_on None = stops stop.ReadFault
+content_fate read refused goes_on (Some bytes) = said_fate refused goes_on (read bytes)
+
+-- a command that comes to a file, and goes on so with what the file says
+abbrev pub with_file : {T F : Type 0} → (List ℕ → Result T F) → (F → Stop) → Given → List ℕ → (T → Fate) → Fate
+with_file read refused given name goes_on =
+    if is_some given.files then content_fate read refused goes_on (told_content given.files name) else untold
+
+-- a command that comes to a rule file, and goes on so with its term
+abbrev pub with_rule : Given → List ℕ → (Tree → Fate) → Fate
+with_rule given name goes_on = with_file rule_of refused_rule given name goes_on
+
+-- a command that comes to a profile, and goes on so with it and its names
+abbrev pub with_profile : Given → List ℕ → (File → Fate) → Fate
+with_profile given name goes_on = with_file soc refused_profile given name goes_on
 
 -- what a rule elects, rejects and defers of all alternatives of a profile, as a text
 abbrev pub count_text : Tree → Votes → List ℕ
 count_text rule votes = result_text (mean rule (all votes.alternatives) votes.lines)
 
--- where the rule file is accepted, by what is read of the profile
-abbrev pub profile_fate : Tree → Result File SocFault → Fate
-profile_fate rule (Err fault) = refuses_profile fault
-profile_fate rule (Ok file) = has_text (count_text rule file.profile)
-
--- by what is read of the rule file, and the content of the profile
-abbrev pub rule_fate : Option Tree → Option (List ℕ) → Fate
-rule_fate None profile = refuses_rule
-rule_fate (Some rule) None = lacks_file
-rule_fate (Some rule) (Some profile) = profile_fate rule (soc profile)
-
--- by the contents of both files
-abbrev pub count_fate : Option (List ℕ) → Option (List ℕ) → Fate
-count_fate None profile = lacks_file
-count_fate (Some rule) profile = rule_fate (rule_of rule) profile
-
--- what a command comes to over these files
-abbrev pub command_fate : Option Files → Command → Fate
-command_fate files (count rule profile) =
-    if is_some files then count_fate (told_content files rule) (told_content files profile) else untold
+-- what a command comes to
+abbrev pub command_fate : Given → Command → Fate
+command_fate given (count rule profile) = with_rule given rule (λ term. with_profile given profile (λ file. prints (count_text term file.profile)))
 
 -- what words come to that are this command, or none
-abbrev pub words_fate : Option Files → Option Command → Fate
-words_fate files None = no_command
-words_fate files (Some command) = command_fate files command
+abbrev pub words_fate : Given → Option Command → Fate
+words_fate given None = stops stop.Usage
+words_fate given (Some command) = command_fate given command
 
--- what a call with these words comes to over these files
-abbrev pub fate : Option Files → List (List ℕ) → Fate
-fate files words = words_fate files (command_of words)
-
--- Of the file that a command selected last, at most one byte more than the limit of its kind is taken.
-abbrev pub TakesWithin : Option Files → Command → Bool → Option (List ℕ) → Type 0
-TakesWithin files (count rule profile) selected rest =
-    TakesAtMost files rule selected rest (rule_limit + 1) ⊎ TakesAtMost files profile selected rest (size_limit + 1)
-
--- Of the rule file of a command, which was selected last, at most one byte more than its limit is taken.
-abbrev pub TakesRule : Option Files → Command → Bool → Option (List ℕ) → Type 0
-TakesRule files (count rule profile) selected rest = TakesAtMost files rule selected rest (rule_limit + 1)
+-- what a call with these words comes to
+abbrev pub fate : Given → List (List ℕ) → Fate
+fate given words = words_fate given (command_of words)

@@ -1,33 +1,75 @@
--- What a file of a command is, where the files are told.
-use Rattle.std.specs.Prelude.{◌≡◌, ℕ, List, None, Some, Ok, Err}
+-- The files that a command may come to, and what an answer about one of them says.
+use Rattle.std.specs.Prelude.{◌≡◌, ◌⊎◌, ℕ, ◌+◌, Bool, List, [], ◌∷◌, length, nat_le, None, Some, IsSome, IsTrue, Result, Ok, Err, if◌then◌else◌}
 use Rattle.std.specs.declared.option.Option.{Option}
-use Rattle.vir_outside.specs.Shelf.{Files, told_content}
-use Rattle.vir_profile.specs.SocFiles.{File}
-use Rattle.vir_soc.specs.declared.fault.SocFault.{SocFault}
-use Rattle.vir_soc.specs.Soc.{soc}
+use Rattle.vir_outside.specs.Shelf.{Files, Lacks, TakesAtMost, told_content}
+use Rattle.vir_plain_rule.specs.declared.refusal.RuleRefusal.{RuleRefusal}
+use Rattle.vir_plain_rule.specs.declared.refusal.RuleRefusal.TheVariants.{NotPlain}
+use Rattle.vir_plain_rule.specs.PlainRule.{plain_rule}
+use Rattle.vir_soc.specs.Soc.{size_limit}
 use Rattle.vir_term.specs.Tree.{Tree}
-use Rattle.virage.specs.Fate.{rule_of}
+use Rattle.virage.specs.declared.file_stop.FileStop.{FileStop}
+use Rattle.virage.specs.declared.file_stop.FileStop.TheVariants.{Fault, Refused, Memory}
+use Rattle.virage.specs.declared.rule_file.TheConstants.{RULE_LIMIT}
+use Rattle.virage.specs.Command.{Command, count, command_of}
 
--- The file of this name is told, and is the rule file of this term.
-pub record IsRule (files : Option Files) (name : List ℕ) (rule : Tree) : Type 0 where
+-- the term of a rule file, or what is wrong with it; one that is too long is refused as it stands
+abbrev pub rule_of : List ℕ → Result Tree RuleRefusal
+rule_of bytes = if nat_le (length bytes) RULE_LIMIT then plain_rule bytes else Err NotPlain
+
+-- A file that a command may come to: its name, and how many bytes one of its kind may have.
+pub record AskedFile : Type 0 where
+  pub name : List ℕ
+  pub limit : ℕ
+
+-- the files that a command comes to, one after another, as long as none stops it
+abbrev pub files_of : Command → List AskedFile
+files_of (count rule profile) = record { name = rule; limit = RULE_LIMIT } ∷ record { name = profile; limit = size_limit } ∷ []
+
+-- the files that the words ask for; none where they are no command
+abbrev pub files_of_any : Option Command → List AskedFile
+files_of_any None = []
+files_of_any (Some command) = files_of command
+
+abbrev pub asked_files : List (List ℕ) → List AskedFile
+asked_files words = files_of_any (command_of words)
+
+-- The files are told and the first that is asked for is missing.
+abbrev pub LacksFirst : Option Files → List AskedFile → Type 0
+LacksFirst files [] = ⊥
+LacksFirst files (first ∷ rest) = Lacks files first.name
+
+-- Of one of these files, if there are any, at most one byte more than its limit is taken.
+abbrev pub TakesOfOne : Option Files → List AskedFile → Bool → Option (List ℕ) → Type 0
+TakesOfOne files [] selected rest = Unit {0}
+TakesOfOne files (file ∷ []) selected rest = TakesAtMost files file.name selected rest (file.limit + 1)
+TakesOfOne files (file ∷ next ∷ more) selected rest = TakesAtMost files file.name selected rest (file.limit + 1) ⊎ TakesOfOne files (next ∷ more) selected rest
+
+-- This file is selected, and at most one byte more than its limit is taken of it.
+pub record StandsAt (files : Option Files) (file : AskedFile) (selected : Bool) (rest : Option (List ℕ)) : Type 0 where
+  pub is_selected : IsTrue selected
+  pub takes : TakesAtMost files file.name selected rest (file.limit + 1)
+
+-- The first of these files is selected.
+abbrev pub StandsAtFirst : Option Files → List AskedFile → Bool → Option (List ℕ) → Type 0
+StandsAtFirst files [] selected rest = Unit {0}
+StandsAtFirst files (file ∷ more) selected rest = StandsAt files file selected rest
+
+-- The last of these files is selected.
+abbrev pub StandsAtLast : Option Files → List AskedFile → Bool → Option (List ℕ) → Type 0
+StandsAtLast files [] selected rest = Unit {0}
+StandsAtLast files (file ∷ []) selected rest = StandsAt files file selected rest
+StandsAtLast files (file ∷ next ∷ more) selected rest = StandsAtLast files (next ∷ more) selected rest
+
+-- The file of this name is told, and so read it says this.
+pub record FileSays {T F : Type 0} (read : List ℕ → Result T F) (files : Option Files) (name : List ℕ) (answer : Result T F) : Type 0 where
   pub bytes : List ℕ
   pub content : told_content files name ≡ Some bytes
-  pub accepted : rule_of bytes ≡ Some rule
+  pub says : read bytes ≡ answer
 
--- The file of this name is told, and is no rule file.
-pub record IsNoRule (files : Option Files) (name : List ℕ) : Type 0 where
-  pub bytes : List ℕ
-  pub content : told_content files name ≡ Some bytes
-  pub refused : rule_of bytes ≡ None
-
--- The file of this name is told, and says this profile with these names.
-pub record IsProfileFile (files : Option Files) (name : List ℕ) (file : File) : Type 0 where
-  pub bytes : List ℕ
-  pub content : told_content files name ≡ Some bytes
-  pub accepted : soc bytes ≡ Ok file
-
--- The file of this name is told, and this is its first fault as a profile.
-pub record IsNoProfile (files : Option Files) (name : List ℕ) (fault : SocFault) : Type 0 where
-  pub bytes : List ℕ
-  pub content : told_content files name ≡ Some bytes
-  pub refused : soc bytes ≡ Err fault
+-- What a call answers that reads the file of this name is what the file says, as far as files are told. It fails only where the
+-- count of faults rose or the file is missing; want of memory is free.
+abbrev pub Reads : {X T F : Type 0} → (List ℕ → Result T F) → (X → T) → Option Files → List ℕ → Type 0 → Result X (FileStop F) → Type 0
+Reads read view files name rose (Ok x) = IsSome files → FileSays read files name (Ok (view x))
+Reads read view files name rose (Err Fault) = rose ⊎ Lacks files name
+Reads read view files name rose (Err (Refused fault)) = IsSome files → FileSays read files name (Err fault)
+Reads read view files name rose (Err Memory) = Unit {0}

@@ -1,9 +1,11 @@
 pub mod Command
+pub mod Stops
+pub mod Files
 pub mod ResultText
 pub mod Fate
-pub mod Files
+pub mod Delivery
 pub mod Answer
-pub mod Pieces
+pub mod Feeding
 pub use Rattle.vir_outside.specs.Faults
 pub use Rattle.vir_outside.specs.Shelf
 pub use Rattle.vir_outside.specs.Sink

@@ -1,23 +1,21 @@
 // The words of the command line.
-ghost use Rattle.std.specs.Prelude.{◌≡◌, IfSome, IfNone, None, Some, map, string_bytes};
-ghost use Rattle.virage.specs.Command.{command_of, count};
+ghost use Rattle.std.specs.Prelude.{◌≡◌, map, string_bytes};
+ghost use Rattle.std.specs.Option.{option_map};
+ghost use Rattle.virage.specs.Command.{command_of, command_seen};
 
-/// What the words ask for.
+/// What the words ask for. Names of files are borrowed from the words.
 #[derive(Clone, Copy)]
-pub struct Count<'a> {
-    /// The name of the rule file.
-    pub rule: &'a str,
-    /// The name of the profile.
-    pub profile: &'a str,
+pub enum Command<'a> {
+    /// Counts the profile with the rule.
+    Count { rule: &'a str, profile: &'a str },
 }
 
 /// The command that the words are; None exactly where they are no command.
-pub fn read_words(words: &[String]) -> Option<Count<'_>>
-    ensures some { IfSome result (λ c. command_of (map string_bytes words.now) ≡ Some (count c.rule.now c.profile.now)) }
-    ensures none { IfNone result (command_of (map string_bytes words.now) ≡ None) }
+pub fn read_words(words: &[String]) -> Option<Command<'_>>
+    ensures { option_map command_seen result ≡ command_of (map string_bytes words.now) }
 {
     match words {
-        [first, rule, profile] if first.as_str() == "count" => Some(Count {
+        [first, rule, profile] if first.as_str() == "count" => Some(Command::Count {
             rule: rule.as_str(),
             profile: profile.as_str(),
         }),

@@ -5,14 +5,20 @@
 //! ends with the status that it answers. The contract of that call is what users rest on: over files
 //! that are told, what it prints is the meaning of the rule on the profile; each status comes where
 //! its cause is, and where the cause is the status comes. All of it is said by one function of the
-//! words and the files (`specs/Fate.antt`). It stands on all other crates.
+//! words and the files (`specs/Fate.antt`). The call is two steps: `answered` does what the words ask
+//! for, and `deliver` or `report` tells the outcome to both streams. It stands on all other crates.
 #![tactic(auto)]
 
-ghost use Rattle.std.specs.Prelude.{◌≡◌, ◌⊎◌};
+ghost use Rattle.std.specs.Prelude.{◌≡◌, ◌↔◌, ◌⊎◌};
+ghost use Rattle.std.specs.IoError.{error_kind};
+ghost use Rattle.std.specs.declared.io.ErrorKind.TheVariants.{OutOfMemory};
 
+mod answer;
+mod answering;
 mod command;
 mod count;
-mod fault_line;
+mod delivery;
+mod file_stop;
 mod profile_file;
 mod result_text;
 mod rule_file;
@@ -28,9 +34,10 @@ use std::{env, io};
 use top::virage;
 use vir_outside::{FolderShelf, StreamSink};
 
-// The status where the words can't be had: one isn't text, or memory is wanting.
+// The status where the words can't be had: want of memory where that is why, and else one isn't text.
 fn status_of(error: &io::Error) -> u8
-    ensures { (result ≡ OUT_OF_MEMORY) ⊎ (result ≡ USAGE_FAULT) }
+    ensures memory { (result ≡ OUT_OF_MEMORY) ↔ (error_kind error.now ≡ OutOfMemory) }
+    ensures statuses { (result ≡ OUT_OF_MEMORY) ⊎ (result ≡ USAGE_FAULT) }
 {
     if error.kind() == io::ErrorKind::OutOfMemory {
         OUT_OF_MEMORY

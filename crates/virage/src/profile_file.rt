@@ -1,18 +1,18 @@
 // A profile, read in pieces to its end or to its first fault.
-ghost use Rattle.std.specs.Prelude.{◌≡◌, ◌⊎◌, ◌≤◌, ◌+◌, ℕ, List, length, Ok, Err, IsTrue, IfOk, IfErr, IfSome, IsErrOf, IsSome};
+ghost use Rattle.std.specs.Prelude.{◌≡◌, ◌⊎◌, ◌≤◌, ◌+◌, ℕ, List, length, IsTrue, Ok, IfOk, IfErr, IfSome, Some, IsErrOf};
 ghost use Rattle.std.specs.Io.KnownBytes.{Consumes};
 ghost use Rattle.vir_outside.specs.Faults.{Rose};
-ghost use Rattle.vir_outside.specs.Shelf.{Lacks, TakesAtMost};
+ghost use Rattle.vir_outside.specs.Shelf.{TakesAtMost};
 ghost use Rattle.vir_soc.specs.Soc.{soc, size_limit};
 ghost use Rattle.vir_soc.specs.Stands.{stands};
-ghost use Rattle.virage.specs.Pieces.{StandsForRest, IfProfileRefused, stop_of};
-ghost use Rattle.virage.specs.Files.{IsProfileFile, IsNoProfile};
+ghost use Rattle.virage.specs.Feeding.{StandsForRest, StopsRest, file_stop_of};
+ghost use Rattle.virage.specs.Files.{Reads};
 
-use crate::stop::Stop;
+use crate::file_stop::FileStop;
 use std::alloc::Global;
 use vir_outside::Shelf;
 use vir_profile::SocFile;
-use vir_soc::{SocError, SocReader};
+use vir_soc::{SocError, SocFault, SocReader};
 
 /// The most bytes that a profile may have.
 const SIZE_LIMIT: usize = vir_soc::SIZE_LIMIT as usize;
@@ -21,25 +21,34 @@ const SIZE_LIMIT: usize = vir_soc::SIZE_LIMIT as usize;
 const PIECE: usize = 65_536;
 
 // Why reading stops where the reader stops.
-fn stop_of(error: SocError) -> Stop
-    ensures { result ≡ stop_of error }
+fn file_stop_of(error: SocError) -> FileStop<SocFault>
+    ensures { result ≡ file_stop_of error }
 {
     match error {
-        SocError::Fault(fault) => Stop::ProfileRefused(fault),
-        SocError::Memory => Stop::Memory,
+        SocError::Fault(fault) => FileStop::Refused(fault),
+        SocError::Memory => FileStop::Memory,
     }
 }
 
+// How many bytes are asked for where so many are taken: at most a piece, and all in all at most one
+// more than the limit.
+fn room_after(taken: usize) -> usize
+    requires { taken ≤ size_limit }
+    ensures some { 1 ≤ result }
+    ensures piece { result ≤ PIECE }
+    ensures within { taken + result ≤ size_limit + 1 }
+{
+    (SIZE_LIMIT - taken).min(PIECE - 1) + 1
+}
+
 // A reader that was fed what is left of the selected file, to its end.
-fn fed_reader<S: Shelf>(alloc: Global, shelf: &mut S) -> Result<SocReader, Stop>
+fn fed_reader<S: Shelf>(alloc: Global, shelf: &mut S) -> Result<SocReader, FileStop<SocFault>>
     requires { IsTrue (S.selected shelf.old) }
     ensures fed { IfOk result (λ reader. StandsForRest reader (S.rest shelf.old)) }
-    ensures fault { IsErrOf result Stop.ReadFault → Rose (S.faults shelf.old) (S.faults shelf.new) }
-    ensures refused { IfErr result (λ stop. IfProfileRefused stop (λ fault.
-        IfSome (S.rest shelf.old) (λ rest. soc rest ≡ Err fault))) }
-    ensures no_rule { IsErrOf result Stop.RuleRefused → ⊥ }
+    ensures stops { IfErr result (StopsRest (S.rest shelf.old) (Rose (S.faults shelf.old) (S.faults shelf.new))) }
     ensures taken { (bytes : List ℕ) × (length bytes ≤ size_limit + 1)
         × Consumes (S.rest shelf.old) (S.rest shelf.new) bytes }
+    ensures selected { IsTrue (S.selected shelf.new) }
     ensures files { S.files shelf.new ≡ S.files shelf.old }
     ensures later { S.faults shelf.old ≤ S.faults shelf.new }
 {
@@ -47,15 +56,15 @@ fn fed_reader<S: Shelf>(alloc: Global, shelf: &mut S) -> Result<SocReader, Stop>
     let mut piece = [0u8; PIECE];
     let mut taken = 0usize;
     while taken <= SIZE_LIMIT {
-        let room = (SIZE_LIMIT - taken).min(PIECE - 1) + 1;
+        let room = room_after(taken);
         let Ok(count) = shelf.read(&mut piece[..room]) else {
-            return Err(Stop::ReadFault);
+            return Err(FileStop::Fault);
         };
         if count == 0 {
             return Ok(reader);
         }
         if let Err(error) = reader.feed(&piece[..count]) {
-            return Err(stop_of(error));
+            return Err(file_stop_of(error));
         }
         taken += count;
     }
@@ -63,30 +72,25 @@ fn fed_reader<S: Shelf>(alloc: Global, shelf: &mut S) -> Result<SocReader, Stop>
 }
 
 // What a reader says that was fed its file to the end.
-fn finished(reader: SocReader) -> Result<SocFile, Stop>
+fn finished(reader: SocReader) -> Result<SocFile, FileStop<SocFault>>
     ensures file { (bytes : List ℕ) → reader ≡ stands bytes → IfOk result (λ file. soc bytes ≡ Ok file) }
-    ensures refused { (bytes : List ℕ) → reader ≡ stands bytes
-        → IfErr result (λ stop. IfProfileRefused stop (λ fault. soc bytes ≡ Err fault)) }
-    ensures no_fault { IsErrOf result Stop.ReadFault → ⊥ }
-    ensures no_rule { IsErrOf result Stop.RuleRefused → ⊥ }
+    ensures stops { (bytes : List ℕ) → reader ≡ stands bytes → IfErr result (StopsRest (Some bytes) ⊥) }
 {
     match reader.finish() {
         Ok(file) => Ok(file),
-        Err(SocError::Fault(fault)) => Err(Stop::ProfileRefused(fault)),
-        Err(SocError::Memory) => Err(Stop::Memory),
+        Err(SocError::Fault(fault)) => Err(FileStop::Refused(fault)),
+        Err(SocError::Memory) => Err(FileStop::Memory),
     }
 }
 
 // The profile and the names of the selected file, from what is left of it.
-fn selected_profile<S: Shelf>(alloc: Global, shelf: &mut S) -> Result<SocFile, Stop>
+fn selected_profile<S: Shelf>(alloc: Global, shelf: &mut S) -> Result<SocFile, FileStop<SocFault>>
     requires { IsTrue (S.selected shelf.old) }
     ensures file { IfOk result (λ file. IfSome (S.rest shelf.old) (λ rest. soc rest ≡ Ok file)) }
-    ensures fault { IsErrOf result Stop.ReadFault → Rose (S.faults shelf.old) (S.faults shelf.new) }
-    ensures refused { IfErr result (λ stop. IfProfileRefused stop (λ fault.
-        IfSome (S.rest shelf.old) (λ rest. soc rest ≡ Err fault))) }
-    ensures no_rule { IsErrOf result Stop.RuleRefused → ⊥ }
+    ensures stops { IfErr result (StopsRest (S.rest shelf.old) (Rose (S.faults shelf.old) (S.faults shelf.new))) }
     ensures taken { (bytes : List ℕ) × (length bytes ≤ size_limit + 1)
         × Consumes (S.rest shelf.old) (S.rest shelf.new) bytes }
+    ensures selected { IsTrue (S.selected shelf.new) }
     ensures files { S.files shelf.new ≡ S.files shelf.old }
     ensures later { S.faults shelf.old ≤ S.faults shelf.new }
 {
@@ -96,17 +100,17 @@ fn selected_profile<S: Shelf>(alloc: Global, shelf: &mut S) -> Result<SocFile, S
 
 /// The profile and the names of a file. It is read in pieces, each of which is fed to the reader of
 /// profiles, to the end of the file or to its first fault.
-pub fn profile_file<S: Shelf>(alloc: Global, shelf: &mut S, name: &str) -> Result<SocFile, Stop>
-    ensures profile { IfOk result (λ file. IsSome (S.files shelf.old) → IsProfileFile (S.files shelf.old) name.now file) }
-    ensures fault { IsErrOf result Stop.ReadFault
-        → Rose (S.faults shelf.old) (S.faults shelf.new) ⊎ Lacks (S.files shelf.old) name.now }
-    ensures refused { IfErr result (λ stop. IfProfileRefused stop (λ fault.
-        IsSome (S.files shelf.old) → IsNoProfile (S.files shelf.old) name.now fault)) }
-    ensures no_rule { IsErrOf result Stop.RuleRefused → ⊥ }
+pub fn profile_file<S: Shelf>(
+    alloc: Global,
+    shelf: &mut S,
+    name: &str,
+) -> Result<SocFile, FileStop<SocFault>>
+    ensures reads { Reads soc (λ file. file) (S.files shelf.old) name.now (Rose (S.faults shelf.old) (S.faults shelf.new)) result }
+    ensures selected { IsErrOf result FileStop.Fault ⊎ IsTrue (S.selected shelf.new) }
     ensures taken { TakesAtMost (S.files shelf.old) name.now (S.selected shelf.new) (S.rest shelf.new) (size_limit + 1) }
     ensures files { S.files shelf.new ≡ S.files shelf.old }
     ensures later { S.faults shelf.old ≤ S.faults shelf.new }
 {
-    shelf.select(name).map_err(|_| Stop::ReadFault)?;
+    shelf.select(name).map_err(|_| FileStop::Fault)?;
     selected_profile(alloc, shelf)
 }

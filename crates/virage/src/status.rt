@@ -3,11 +3,14 @@
 /// The text is written.
 pub const PRINTED: u8 = 0;
 
+/// The text is written, and it is a negative answer.
+pub const DENIED: u8 = 1;
+
 /// The words are no command.
 pub const USAGE_FAULT: u8 = 2;
 
-/// The rule file is refused.
-pub const RULE_REFUSED: u8 = 3;
+/// The text of the rule is refused.
+pub const TEXT_REFUSED: u8 = 3;
 
 /// The profile is refused.
 pub const PROFILE_REFUSED: u8 = 4;

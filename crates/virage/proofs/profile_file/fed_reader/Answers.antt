@@ -8,13 +8,13 @@ use Rattle.vir_outside.proofs.Rests.{consumes_more, taken_more}
 use Rattle.virage.proofs.FedLemmas.{shown_of_rest, settled-within, length-piece}
 use Rattle.virage.proofs.profile_file.fed_reader.Goals as goal
 
-pub returns-in-Err-clause-refused : goal.returns-in-Err-clause-refused
-returns-in-Err-clause-refused g c =
+pub returns-in-Err-clause-stops : goal.returns-in-Err-clause-stops
+returns-in-Err-clause-stops g c =
     let so_far = c.loop-taken.invariant in
     let buf = c.read.new.buf in
-    let fed : take c.in-Ok.count (buf ++ drop (c.min-room.result + 1) c.loop-taken.piece) ≡ take c.in-Ok.count buf = take-append-le c.in-Ok.count buf _ c.in-Ok.ensures.bound.0 in
-    rw c.stop_of.ensures
-    (shown_of_rest _ _ _ so_far.fed (take c.in-Ok.count buf) c.in-Err.error so_far.parts c.in-Ok.ensures.bytes.0
+    let fed : take c.in-Ok.count (buf ++ drop c.room_after-room.result c.loop-taken.piece) ≡ take c.in-Ok.count buf = take-append-le c.in-Ok.count buf _ c.in-Ok.ensures.bound.0 in
+    rw c.file_stop_of.ensures
+    (shown_of_rest _ _ _ so_far.fed (take c.in-Ok.count buf) _ c.in-Err.error so_far.parts c.in-Ok.ensures.bytes.0
     (subst (λ (p : List ℕ). Shows c.in-Err.error (settled (so_far.fed ++ p))) fed (c.in-Err.ensures.fault so_far.fed so_far.stands_for)))
 
 pub returns-in-Err-clause-taken : goal.returns-in-Err-clause-taken
@@ -27,7 +27,7 @@ loop-taken-preserved g c =
     let so_far = c.loop-taken.invariant in
     let buf = c.read.new.buf in
     let n = c.in-Ok.count in
-    let fed : take n (buf ++ drop (c.min-room.result + 1) c.loop-taken.piece) ≡ take n buf = take-append-le n buf _ c.in-Ok.ensures.bound.0 in
+    let fed : take n (buf ++ drop c.room_after-room.result c.loop-taken.piece) ≡ take n buf = take-append-le n buf _ c.in-Ok.ensures.bound.0 in
     let after = c.in_default-feed.ensures.ok so_far.fed so_far.stands_for in
     let long : length (so_far.fed ++ take n buf) ≡ length so_far.fed + n = length-piece so_far.fed buf n c.in-Ok.ensures.bound.0 in
     let fine : settled (so_far.fed ++ take n buf) ≡ None = ap (λ (p : List ℕ). settled (so_far.fed ++ p)) (sym fed) ∙ after.1 in

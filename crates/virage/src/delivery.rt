@@ -1,0 +1,151 @@
+// An answer, or the reason why there is none, told to both sinks.
+ghost use Rattle.std.specs.Prelude.{◌≡◌, ◌≢◌, ◌≤◌, ◌++◌, ℕ, List};
+ghost use Rattle.std.specs.declared.option.Option.{Option};
+ghost use Rattle.std.specs.Io.KnownBytes.{Appends};
+ghost use Rattle.vir_outside.specs.Faults.{Rose};
+ghost use Rattle.vir_outside.specs.Sink.{AppendsPrefix};
+ghost use Rattle.virage.specs.declared.stop.Stop.TheVariants.{WriteFault};
+ghost use Rattle.virage.specs.Answer.{Reports, Writes};
+ghost use Rattle.virage.specs.Delivery.{answer_status, answer_text, placed_line, refusal_line, refusal_name, stop_line, stop_status};
+
+use crate::answer::Answer;
+use crate::status::{
+    DENIED, OUT_OF_MEMORY, PRINTED, PROFILE_REFUSED, READ_FAULT, TEXT_REFUSED, USAGE_FAULT, WRITE_FAULT,
+};
+use crate::stop::Stop;
+use itoa::Buffer;
+use vir_outside::{Failed, Sink, write_whole};
+use vir_plain_rule::RuleRefusal;
+
+// The status of a reason to stop.
+fn stop_status(reason: Stop) -> u8
+    ensures { result ≡ stop_status reason }
+{
+    match reason {
+        Stop::Usage => USAGE_FAULT,
+        Stop::ReadFault => READ_FAULT,
+        Stop::RuleRefused(_) => TEXT_REFUSED,
+        Stop::ProfileRefused(_) => PROFILE_REFUSED,
+        Stop::WriteFault => WRITE_FAULT,
+        Stop::Memory => OUT_OF_MEMORY,
+    }
+}
+
+// The name of what is wrong with the text of a rule.
+fn refusal_name(refusal: RuleRefusal) -> &'static str
+    ensures { result.now ≡ refusal_name refusal }
+{
+    match refusal {
+        RuleRefusal::NotPlain => "NotPlain",
+    }
+}
+
+// Writes a further piece behind what was written of a text, if that was.
+fn and_write<E: Sink>(err: &mut E, written: Result<(), Failed>, piece: &[u8]) -> Result<(), Failed>
+    ensures writes { (before : ℕ) (old : Option (List ℕ)) (text : List ℕ) → before ≤ E.faults err.old
+        → Writes before (E.faults err.old) old (E.written err.old) text written
+        → Writes before (E.faults err.new) old (E.written err.new) (text ++ piece.now) result }
+    ensures later { E.faults err.old ≤ E.faults err.new }
+{
+    match written {
+        Ok(()) => write_whole(err, piece),
+        Err(failed) => Err(failed),
+    }
+}
+
+// Writes a line that names a fault and its place. It takes no memory.
+fn write_placed<E: Sink>(
+    err: &mut E,
+    what: &[u8],
+    kind: &str,
+    unit: &[u8],
+    place: u64,
+) -> Result<(), Failed>
+    ensures writes { Writes (E.faults err.old) (E.faults err.new) (E.written err.old) (E.written err.new)
+        (placed_line what.now kind.now unit.now place) result }
+    ensures later { E.faults err.old ≤ E.faults err.new }
+{
+    let mut buffer = Buffer::new();
+    let written = write_whole(err, what);
+    let written = and_write(err, written, kind.as_bytes());
+    let written = and_write(err, written, unit);
+    let written = and_write(err, written, buffer.format(place).as_bytes());
+    and_write(err, written, b"\n")
+}
+
+// Writes the line of a refused rule.
+fn write_refusal<E: Sink>(err: &mut E, refusal: RuleRefusal) -> Result<(), Failed>
+    ensures writes { Writes (E.faults err.old) (E.faults err.new) (E.written err.old) (E.written err.new) (refusal_line refusal) result }
+    ensures later { E.faults err.old ≤ E.faults err.new }
+{
+    let written = write_whole(err, b"text refused: ");
+    let written = and_write(err, written, refusal_name(refusal).as_bytes());
+    and_write(err, written, b"\n")
+}
+
+// Writes the line of a reason to stop.
+fn write_line<E: Sink>(err: &mut E, reason: Stop) -> Result<(), Failed>
+    ensures writes { Writes (E.faults err.old) (E.faults err.new) (E.written err.old) (E.written err.new) (stop_line reason) result }
+    ensures later { E.faults err.old ≤ E.faults err.new }
+{
+    match reason {
+        Stop::Usage => write_whole(err, b"usage fault\n"),
+        Stop::ReadFault => write_whole(err, b"read fault\n"),
+        Stop::RuleRefused(refusal) => write_refusal(err, refusal),
+        Stop::ProfileRefused(fault) => {
+            let kind = fault.kind.name();
+            write_placed(err, b"profile refused: ", kind, b" at line ", fault.line)
+        }
+        Stop::WriteFault => write_whole(err, b"write fault\n"),
+        Stop::Memory => write_whole(err, b"out of memory\n"),
+    }
+}
+
+/// Tells why there is no whole text: writes the line of the reason, and answers its status. Whether
+/// the line can be written changes no status. It takes no memory.
+pub fn report<E: Sink>(err: &mut E, reason: Stop) -> u8
+    ensures status { result ≡ stop_status reason }
+    ensures line { Reports (E.faults err.old) (E.faults err.new) (E.written err.old) (E.written err.new) (stop_line reason) }
+    ensures later { E.faults err.old ≤ E.faults err.new }
+{
+    let _ = write_line(err, reason);
+    stop_status(reason)
+}
+
+// The text of an answer.
+fn text_of(answer: &Answer) -> &[u8]
+    ensures { result.now ≡ answer_text answer.now }
+{
+    match answer {
+        Answer::Text(text) => text,
+        Answer::Denial(text) => text,
+    }
+}
+
+// The status of an answer that is written whole.
+fn answer_status(answer: &Answer) -> u8
+    ensures { result ≡ answer_status answer.now }
+{
+    match answer {
+        Answer::Text(_) => PRINTED,
+        Answer::Denial(_) => DENIED,
+    }
+}
+
+/// Writes the text of an answer to `out`, and answers its status; where that fails, reports it.
+pub fn deliver<O: Sink, E: Sink>(out: &mut O, err: &mut E, answer: &Answer) -> u8
+    ensures status { result ≢ WRITE_FAULT → result ≡ answer_status answer.now }
+    ensures whole { result ≢ WRITE_FAULT → Appends (O.written out.old) (O.written out.new) (answer_text answer.now) }
+    ensures no_line { result ≢ WRITE_FAULT → err.new ≡ err.old }
+    ensures prefix { result ≡ WRITE_FAULT → AppendsPrefix (O.written out.old) (O.written out.new) (answer_text answer.now) }
+    ensures failed { result ≡ WRITE_FAULT → Rose (O.faults out.old) (O.faults out.new) }
+    ensures line { result ≡ WRITE_FAULT
+        → Reports (E.faults err.old) (E.faults err.new) (E.written err.old) (E.written err.new) (stop_line WriteFault) }
+    ensures later { O.faults out.old ≤ O.faults out.new }
+    ensures err_later { E.faults err.old ≤ E.faults err.new }
+{
+    if write_whole(out, text_of(answer)).is_err() {
+        return report(err, Stop::WriteFault);
+    }
+    answer_status(answer)
+}
