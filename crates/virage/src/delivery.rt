@@ -10,7 +10,8 @@ ghost use Rattle.virage.specs.Delivery.{answer_status, answer_text, placed_line,
 
 use crate::answer::Answer;
 use crate::status::{
-    DENIED, OUT_OF_MEMORY, PRINTED, PROFILE_REFUSED, READ_FAULT, TEXT_REFUSED, USAGE_FAULT, WRITE_FAULT,
+    DENIED, OUT_OF_MEMORY, PRINTED, PROFILE_REFUSED, READ_FAULT, TEXT_REFUSED, USAGE_FAULT,
+    WRITE_FAULT,
 };
 use crate::stop::Stop;
 use itoa::Buffer;

@@ -1,16 +1,43 @@
-// Runs over a shelf and sinks in memory, with each call failing in turn.
+// Calls over a shelf and sinks in memory: rows of words and files with what they come to, and each call of a device failing in turn.
+ghost use Rattle.std.specs.Prelude.{◌≤◌};
+
+use crate::answer::Answer;
+use crate::delivery::deliver;
 use crate::top::virage;
 use std::alloc::{AllocError, Global};
-use std::test::Fail;
+use std::process::Abort;
 use vir_outside::{MemoryShelf, MemorySink};
+
+// Words, the contents of the files "rule.vir" and "votes.soc", and the status, the output and the
+// error line of the call.
+type Row = (
+    &'static [&'static str],
+    &'static [u8],
+    &'static [u8],
+    u8,
+    &'static [u8],
+    &'static [u8],
+);
 
 const COUNT: &[&str] = &["count", "rule.vir", "votes.soc"];
 
 const PLURALITY: &[u8] = b"r = plurality;";
 
+const ELECT: &[u8] = b"r = elect;";
+
 const DIVIDED: &[u8] = b"# NUMBER ALTERNATIVES: 3\n4: 1,2,3\n3: 2,3,1\n2: 3,2,1\n";
 
-// The same votes with full metadata.
+const SILENT: &[u8] = b"# NUMBER ALTERNATIVES: 3\n";
+
+const SHORT: &[u8] = b"# NUMBER ALTERNATIVES: 3\n3: 1,2\n3: 2,3,1\n2: 3,2,1\n";
+
+const VOTERS: &[u8] =
+    b"# NUMBER VOTERS: 10\n# NUMBER ALTERNATIVES: 3\n4: 1,2,3\n3: 2,3,1\n2: 3,2,1\n";
+
+// The same votes, loosely written, and with full metadata.
+const LOOSE: &[u8] =
+    b"\xEF\xBB\xBF# NUMBER ALTERNATIVES: 03\r\n\r\n 4 :1 ,2,\t3\n3: 2,3,1\n#\n2: 3,2,1";
+
 const BOARD: &[u8] = b"# FILE NAME: 00999-00000001.soc\r
 # TITLE: Board, 2020: second round\r
 # DESCRIPTION:\r
@@ -32,6 +59,111 @@ const BOARD: &[u8] = b"# FILE NAME: 00999-00000001.soc\r
 ";
 
 const FIRST_WINS: &[u8] = b"elected: 1\nrejected: 2 3\ndeferred:\n";
+
+const ALL_DEFERRED: &[u8] = b"elected:\nrejected:\ndeferred: 1 2 3\n";
+
+const ALL_ELECTED: &[u8] = b"elected: 1 2 3\nrejected:\ndeferred:\n";
+
+const NOT_PLAIN: &[u8] = b"text refused: NotPlain\n";
+
+const USAGE: &[u8] = b"usage fault\n";
+
+const UNREAD: &[u8] = b"read fault\n";
+
+const ROWS: &[Row] = &[
+    (COUNT, PLURALITY, DIVIDED, 0, FIRST_WINS, b""),
+    (COUNT, b"r = plurality;\n", LOOSE, 0, FIRST_WINS, b""),
+    (COUNT, PLURALITY, BOARD, 0, FIRST_WINS, b""),
+    (
+        COUNT,
+        b"r = seq(plurality,elect);",
+        DIVIDED,
+        0,
+        FIRST_WINS,
+        b"",
+    ),
+    (
+        COUNT,
+        b"r = seq(defer,plurality);",
+        DIVIDED,
+        0,
+        FIRST_WINS,
+        b"",
+    ),
+    (COUNT, b"r = defer;", DIVIDED, 0, ALL_DEFERRED, b""),
+    (COUNT, PLURALITY, SILENT, 0, ALL_ELECTED, b""),
+    (COUNT, b"r = elect ;", SHORT, 3, b"", NOT_PLAIN),
+    (COUNT, b"", DIVIDED, 3, b"", NOT_PLAIN),
+    (
+        COUNT,
+        ELECT,
+        SHORT,
+        4,
+        b"",
+        b"profile refused: Short at line 2\n",
+    ),
+    (
+        COUNT,
+        ELECT,
+        VOTERS,
+        4,
+        b"",
+        b"profile refused: VotersDiffer at line 1\n",
+    ),
+    (
+        COUNT,
+        ELECT,
+        b"",
+        4,
+        b"",
+        b"profile refused: NoAlternativeCount at line 1\n",
+    ),
+    (
+        &["count", "other.vir", "votes.soc"],
+        ELECT,
+        DIVIDED,
+        5,
+        b"",
+        UNREAD,
+    ),
+    (
+        &["count", "rule.vir", "other.soc"],
+        ELECT,
+        DIVIDED,
+        5,
+        b"",
+        UNREAD,
+    ),
+    // A refused rule file hides a missing profile.
+    (
+        &["count", "votes.soc", "other.soc"],
+        ELECT,
+        DIVIDED,
+        3,
+        b"",
+        NOT_PLAIN,
+    ),
+    (&[], ELECT, DIVIDED, 2, b"", USAGE),
+    (&["count"], ELECT, DIVIDED, 2, b"", USAGE),
+    (&["count", "rule.vir"], ELECT, DIVIDED, 2, b"", USAGE),
+    (
+        &["count", "rule.vir", "votes.soc", "more"],
+        ELECT,
+        DIVIDED,
+        2,
+        b"",
+        USAGE,
+    ),
+    (
+        &["tally", "rule.vir", "votes.soc"],
+        ELECT,
+        DIVIDED,
+        2,
+        b"",
+        USAGE,
+    ),
+    (&["--help"], ELECT, DIVIDED, 2, b"", USAGE),
+];
 
 fn full_shelf(alloc: Global, rule: &[u8], profile: &[u8]) -> Result<MemoryShelf, AllocError> {
     let mut shelf = MemoryShelf::new(alloc);
@@ -55,165 +187,139 @@ fn status_of(
     Ok(virage(alloc, &owned, shelf, out, err))
 }
 
-#[test]
-fn files_are_counted_or_refused(rt: HostRuntime) -> Result<(), Fail> {
-    let alloc = rt.alloc();
-    let refused = b"text refused: NotPlain\n".as_slice();
-    let loose =
-        b"\xEF\xBB\xBF# NUMBER ALTERNATIVES: 03\r\n\r\n 4 :1 ,2,\t3\n3: 2,3,1\n#\n2: 3,2,1".as_slice();
-    let short = b"# NUMBER ALTERNATIVES: 3\n3: 1,2\n3: 2,3,1\n2: 3,2,1\n".as_slice();
-    let voters =
-        b"# NUMBER VOTERS: 10\n# NUMBER ALTERNATIVES: 3\n4: 1,2,3\n3: 2,3,1\n2: 3,2,1\n".as_slice();
-    let silent = b"# NUMBER ALTERNATIVES: 3\n".as_slice();
-    let table: [(&[u8], &[u8], u8, &[u8], &[u8]); 12] = [
-        (PLURALITY, DIVIDED, 0, FIRST_WINS, b""),
-        (b"r = plurality;\n", loose, 0, FIRST_WINS, b""),
-        (PLURALITY, BOARD, 0, FIRST_WINS, b""),
-        (b"r = seq(plurality,elect);", DIVIDED, 0, FIRST_WINS, b""),
-        (b"r = seq(defer,plurality);", DIVIDED, 0, FIRST_WINS, b""),
-        (
-            b"r = defer;",
-            DIVIDED,
-            0,
-            b"elected:\nrejected:\ndeferred: 1 2 3\n",
-            b"",
-        ),
-        (
-            PLURALITY,
-            silent,
-            0,
-            b"elected: 1 2 3\nrejected:\ndeferred:\n",
-            b"",
-        ),
-        (b"r = elect ;", short, 3, b"", refused),
-        (b"", DIVIDED, 3, b"", refused),
-        (
-            b"r = elect;",
-            short,
-            4,
-            b"",
-            b"profile refused: Short at line 2\n",
-        ),
-        (
-            b"r = elect;",
-            voters,
-            4,
-            b"",
-            b"profile refused: VotersDiffer at line 1\n",
-        ),
-        (
-            b"r = elect;",
-            b"",
-            4,
-            b"",
-            b"profile refused: NoAlternativeCount at line 1\n",
-        ),
-    ];
-    for (rule, profile, status, text, line) in table {
-        let mut shelf = full_shelf(alloc, rule, profile)?;
-        let mut out = MemorySink::new(alloc, 8);
-        let mut err = MemorySink::new(alloc, 8);
-        let answered = status_of(alloc, COUNT, &mut shelf, &mut out, &mut err)?;
-        assert_eq!(rt; answered, status, "{rule:?} on {profile:?}");
-        assert_eq!(rt; out.bytes(), text);
-        assert_eq!(rt; err.bytes(), line);
-    }
+// A call with these words answers the status, and these bytes are written to sinks that take some at
+// a time.
+fn expect_call(
+    rt: &impl Abort,
+    alloc: Global,
+    words: &[&str],
+    shelf: &mut MemoryShelf,
+    status: u8,
+    text: &[u8],
+    line: &[u8],
+) -> Result<(), AllocError> {
+    let mut out = MemorySink::new(alloc, 8);
+    let mut err = MemorySink::new(alloc, 8);
+    let answered = status_of(alloc, words, shelf, &mut out, &mut err)?;
+    assert!(rt;
+        answered == status,
+        "{words:?} gives {answered} in place of {status}"
+    );
+    assert!(rt; out.bytes() == text, "{words:?} prints something else");
+    assert!(rt; err.bytes() == line, "{words:?} reports something else");
     Ok(())
 }
 
 #[test]
-fn a_profile_is_read_in_pieces(rt: HostRuntime) -> Result<(), Fail> {
-    let alloc = rt.alloc();
-    // A comment longer than a piece stands before the votes.
+fn each_row_comes_to_what_it_says(rt: HostRuntime) -> Result<(), AllocError> {
+    for (words, rule, profile, status, text, line) in ROWS {
+        let mut shelf = full_shelf(rt.alloc(), rule, profile)?;
+        expect_call(&rt, rt.alloc(), words, &mut shelf, *status, text, line)?;
+    }
+    Ok(())
+}
+
+// The votes behind a comment that is longer than a piece.
+fn long_profile(alloc: Global) -> Result<Vec<u8>, AllocError> {
     let mut profile = vec![in alloc; b'#'; 70_000]?;
     profile.push(b'\n')?;
     profile.extend_from_slice(DIVIDED)?;
-    let mut shelf = full_shelf(alloc, PLURALITY, &profile)?;
-    let mut out = MemorySink::new(alloc, 8);
-    let mut err = MemorySink::new(alloc, 8);
-    let status = status_of(alloc, COUNT, &mut shelf, &mut out, &mut err)?;
-    assert_eq!(rt; status, 0);
-    assert_eq!(rt; out.bytes(), FIRST_WINS);
+    Ok(profile)
+}
+
+#[test]
+fn a_profile_is_read_in_pieces(rt: HostRuntime) -> Result<(), AllocError> {
+    let profile = long_profile(rt.alloc())?;
+    let mut shelf = full_shelf(rt.alloc(), PLURALITY, &profile)?;
+    expect_call(&rt, rt.alloc(), COUNT, &mut shelf, 0, FIRST_WINS, b"")?;
     // Two files are selected; the rule is read in one piece and the profile in two, each to its end.
-    assert_eq!(rt; shelf.calls(), 7);
+    assert!(rt; shelf.calls() == 7);
     Ok(())
 }
 
 #[test]
-fn words_and_names_are_judged(rt: HostRuntime) -> Result<(), Fail> {
-    let alloc = rt.alloc();
-    let usage = b"usage fault\n".as_slice();
-    let missing = b"read fault\n".as_slice();
-    let table: [(&[&str], u8, &[u8]); 9] = [
-        (&[], 2, usage),
-        (&["count"], 2, usage),
-        (&["count", "rule.vir"], 2, usage),
-        (&["count", "rule.vir", "votes.soc", "more"], 2, usage),
-        (&["tally", "rule.vir", "votes.soc"], 2, usage),
-        (&["--help"], 2, usage),
-        (&["count", "other.vir", "votes.soc"], 5, missing),
-        (&["count", "rule.vir", "other.soc"], 5, missing),
-        // A refused rule file hides a missing profile.
-        (
-            &["count", "votes.soc", "other.soc"],
-            3,
-            b"text refused: NotPlain\n",
-        ),
-    ];
-    for (words, status, line) in table {
-        let mut shelf = full_shelf(alloc, PLURALITY, DIVIDED)?;
-        let mut out = MemorySink::new(alloc, 8);
-        let mut err = MemorySink::new(alloc, 8);
-        let answered = status_of(alloc, words, &mut shelf, &mut out, &mut err)?;
-        assert_eq!(rt; answered, status, "{words:?}");
-        assert_eq!(rt; out.bytes(), b"".as_slice());
-        assert_eq!(rt; err.bytes(), line);
-    }
-    Ok(())
-}
-
-#[test]
-fn each_failing_read_gives_a_read_fault(rt: HostRuntime) -> Result<(), Fail> {
-    let alloc = rt.alloc();
+fn each_failing_read_gives_a_read_fault(rt: HostRuntime) -> Result<(), AllocError> {
     // Each file is selected, read, and read to its end.
-    for call in 1..8 {
-        let mut shelf = full_shelf(alloc, PLURALITY, DIVIDED)?;
+    for call in 1..7 {
+        let mut shelf = full_shelf(rt.alloc(), PLURALITY, DIVIDED)?;
         shelf.fail_at(call)?;
-        let mut out = MemorySink::new(alloc, 4);
-        let mut err = MemorySink::new(alloc, 4);
-        let status = status_of(alloc, COUNT, &mut shelf, &mut out, &mut err)?;
-        let text: &[u8] = if call == 7 { FIRST_WINS } else { b"" };
-        let line: &[u8] = if call == 7 { b"" } else { b"read fault\n" };
-        assert_eq!(rt; status, if call == 7 { 0 } else { 5 }, "at {call}");
-        assert_eq!(rt; out.bytes(), text);
-        assert_eq!(rt; err.bytes(), line);
+        expect_call(&rt, rt.alloc(), COUNT, &mut shelf, 5, b"", UNREAD)?;
     }
+    let mut shelf = full_shelf(rt.alloc(), PLURALITY, DIVIDED)?;
+    shelf.fail_at(7)?;
+    expect_call(&rt, rt.alloc(), COUNT, &mut shelf, 0, FIRST_WINS, b"")
+}
+
+// A call of `count` writes to an output that takes so many bytes at a time and fails at one write. A
+// fault of the other sink changes nothing.
+fn expect_written(
+    rt: &impl Abort,
+    alloc: Global,
+    most: usize,
+    failing: u64,
+    status: u8,
+    text: &[u8],
+    line: &[u8],
+) -> Result<(), AllocError>
+    requires { 1 ≤ most }
+{
+    let mut shelf = full_shelf(alloc, PLURALITY, DIVIDED)?;
+    let mut out = MemorySink::new(alloc, most);
+    out.fail_at(failing)?;
+    let mut err = MemorySink::new(alloc, 6);
+    err.fail_at(2)?;
+    let answered = status_of(alloc, COUNT, &mut shelf, &mut out, &mut err)?;
+    assert!(rt; answered == status, "at write {failing}");
+    assert!(rt; out.bytes() == text, "at write {failing}");
+    assert!(rt; err.bytes() == line, "at write {failing}");
     Ok(())
 }
 
 #[test]
-fn each_failing_write_gives_a_write_fault(rt: HostRuntime) -> Result<(), Fail> {
-    let alloc = rt.alloc();
-    // One byte a call; and a call that takes four, of which the second fails.
-    for call in 1..37u8 {
-        let mut shelf = full_shelf(alloc, PLURALITY, DIVIDED)?;
-        let mut out = MemorySink::new(alloc, 1);
-        out.fail_at(u64::from(call))?;
-        // A fault of the other sink changes nothing.
-        let mut err = MemorySink::new(alloc, 6);
-        err.fail_at(2)?;
-        let status = status_of(alloc, COUNT, &mut shelf, &mut out, &mut err)?;
+fn each_failing_write_gives_a_write_fault(rt: HostRuntime) -> Result<(), AllocError> {
+    // One byte a write; and a write that takes four, of which the second fails.
+    for call in 1..36u8 {
         let written = usize::from(call - 1).min(FIRST_WINS.len());
-        assert_eq!(rt; status, if call == 36 { 0 } else { 6 }, "at {call}");
-        assert_eq!(rt; out.bytes(), &FIRST_WINS[..written]);
-        let line: &[u8] = if call == 36 { b"" } else { b"write " };
-        assert_eq!(rt; err.bytes(), line);
+        let text = &FIRST_WINS[..written];
+        expect_written(&rt, rt.alloc(), 1, u64::from(call), 6, text, b"write ")?;
     }
-    let mut shelf = full_shelf(alloc, PLURALITY, DIVIDED)?;
-    let mut out = MemorySink::new(alloc, 4);
-    out.fail_at(2)?;
-    let mut err = MemorySink::new(alloc, 4);
-    assert_eq!(rt; status_of(alloc, COUNT, &mut shelf, &mut out, &mut err)?, 6);
-    assert_eq!(rt; out.bytes(), b"elec".as_slice());
+    expect_written(&rt, rt.alloc(), 1, 36, 0, FIRST_WINS, b"")?;
+    expect_written(&rt, rt.alloc(), 4, 2, 6, b"elec", b"write ")
+}
+
+// The line of a refused profile is cut where its sink fails at one of its pieces.
+#[test]
+fn a_line_is_written_up_to_a_fault(rt: HostRuntime) -> Result<(), AllocError> {
+    const CUTS: &[&[u8]] = &[
+        b"",
+        b"profile refused: ",
+        b"profile refused: Short",
+        b"profile refused: Short at line ",
+        b"profile refused: Short at line 2",
+        b"profile refused: Short at line 2\n",
+    ];
+    let mut failing = 1;
+    for line in CUTS {
+        let mut shelf = full_shelf(rt.alloc(), ELECT, SHORT)?;
+        let mut out = MemorySink::new(rt.alloc(), 8);
+        let mut err = MemorySink::new(rt.alloc(), 100);
+        err.fail_at(failing)?;
+        failing = failing.saturating_add(1);
+        let status = status_of(rt.alloc(), COUNT, &mut shelf, &mut out, &mut err)?;
+        assert!(rt; status == 4);
+        assert!(rt; err.bytes() == *line);
+    }
+    Ok(())
+}
+
+// No command has a negative answer yet, so its delivery is called by itself.
+#[test]
+fn a_denial_has_a_status_of_its_own(rt: HostRuntime) -> Result<(), AllocError> {
+    let denial = Answer::Denial(Vec::from_slice(rt.alloc(), b"none\n")?);
+    let mut out = MemorySink::new(rt.alloc(), 8);
+    let mut err = MemorySink::new(rt.alloc(), 8);
+    assert!(rt; deliver(&mut out, &mut err, &denial) == 1);
+    assert!(rt; out.bytes() == b"none\n".as_slice());
+    assert!(rt; err.bytes().is_empty());
     Ok(())
 }

@@ -12,7 +12,8 @@ ghost use Rattle.virage.specs.Files.{LacksFirst, StandsAtFirst, StandsAtLast, Ta
 use crate::answering::answered;
 use crate::delivery::{deliver, report};
 use crate::status::{
-    DENIED, OUT_OF_MEMORY, PRINTED, PROFILE_REFUSED, READ_FAULT, TEXT_REFUSED, USAGE_FAULT, WRITE_FAULT,
+    DENIED, OUT_OF_MEMORY, PRINTED, PROFILE_REFUSED, READ_FAULT, TEXT_REFUSED, USAGE_FAULT,
+    WRITE_FAULT,
 };
 use std::alloc::Global;
 use vir_outside::{Shelf, Sink};
