@@ -4,7 +4,7 @@
 //! its first fault with its line. The one contract: however the bytes are cut into pieces, a
 //! [`SocReader`] gives what that function gives, and shows a fault as soon as the bytes so far settle
 //! it. What [`write_soc`] writes of a file reads back as that file. The layer stands on `vir_profile`,
-//! whose `SocFile` is what a file says.
+//! whose `SocFile` is what a file says. Its tests are a crate of their own, `vir_soc_tests`.
 #![tactic(auto)]
 
 mod bytes;
@@ -19,8 +19,6 @@ mod names;
 mod sayings;
 mod soc_reader;
 mod stop;
-#[cfg(test)]
-mod tests;
 mod told;
 mod votes;
 mod write;
