@@ -1,4 +1,4 @@
-ghost use Rattle.std.specs.Prelude.{◌≡◌, ◌≤◌, ◌<◌, [], ◌∷◌, ◌++◌, length, slice_get, IfErr, OnOk, OnErr, unwrap_or};
+ghost use Rattle.std.specs.Prelude.{◌≡◌, None, ◌≤◌, ◌<◌, [], ◌∷◌, ◌++◌, length, slice_get, IfErr, OnOk, OnErr, unwrap_or};
 ghost use Rattle.std.specs.Option.{option_copied};
 ghost use Rattle.vir_profile.specs.Profiles.{total_weight};
 ghost use Rattle.vir_profile.specs.Add.{add_fault, order_fault, IsProfile};
@@ -83,6 +83,18 @@ impl Profile {
         if let Some(fault) = judge_order(&entry.order, self.alternatives) {
             return Err(Refused { fault, entry });
         }
+        self.add_judged(entry)
+    }
+
+    /// Appends a line of whose order it is known that nothing is wrong with it, as `add` does, but
+    /// without a look at the order.
+    pub fn add_judged(&mut self, entry: Entry) -> Result<(), Refused>
+        requires { order_fault self.old.alternatives entry.order ≡ None }
+        ensures accepted { OnOk result (add_fault self.old entry ≡ None) }
+        ensures appended { OnOk result (self.new ≡ record self.old { lines = self.old.lines ++ entry ∷ [] }) }
+        ensures refused { IfErr result (λ r. r ≡ record { fault = unwrap_or (add_fault self.old entry) AddFault.Memory; entry = entry }) }
+        ensures unchanged { OnErr result (self.new ≡ self.old) }
+    {
         if self.lines.len() >= LINES_LIMIT {
             let fault = AddFault::TooManyOrders;
             return Err(Refused { fault, entry });

@@ -1,9 +1,9 @@
 // Lines that a profile takes, and lines that it hands back; files with names.
-use crate::{AddFault, Ballot, Entry, NameText, Profile, SocFile, laws};
+use crate::{ALTERNATIVES_IN_PLACE, AddFault, Ballot, Entry, NameText, Profile, SocFile, laws};
 use std::alloc::{AllocError, Global};
 
 fn line(alloc: Global, weight: u64, order: &[u16]) -> Result<Entry, AllocError> {
-    let order = Ballot::of(Vec::from_slice(alloc, order)?);
+    let order = Ballot::from_slice(alloc, order)?;
     Ok(Entry { weight, order })
 }
 
@@ -43,6 +43,26 @@ fn lines_are_added_or_handed_back(rt: HostRuntime) -> Result<(), AllocError> {
     assert_eq!(rt; profile.alternatives(), 3);
     assert_eq!(rt; profile.line(0).map(|first| first.weight), Some(4));
     assert!(rt; profile.line(3).is_none());
+    Ok(())
+}
+
+// Orders that stand in the ballot itself, the longest of them among these, and longer ones.
+#[test]
+fn ballots_of_every_length_list_their_order(rt: HostRuntime) -> Result<(), AllocError> {
+    let alloc = rt.alloc();
+    let all: [u16; 16] = [16, 15, 14, 13, 12, 11, 10, 9, 8, 7, 6, 5, 4, 3, 2, 1];
+    for length in [0, 1, ALTERNATIVES_IN_PLACE, ALTERNATIVES_IN_PLACE + 1, 16] {
+        let order = &all[..length];
+        assert!(rt; Ballot::from_slice(alloc, order)?.alternatives() == order);
+        assert!(rt; Ballot::of(Vec::from_slice(alloc, order)?).alternatives() == order);
+        for room in [length, 0] {
+            let mut pushed = Ballot::with_room(alloc, room)?;
+            for x in order {
+                pushed.push(alloc, *x)?;
+            }
+            assert!(rt; pushed.alternatives() == order);
+        }
+    }
     Ok(())
 }
 
