@@ -12,5 +12,6 @@ pub mod WriteLemmas
 pub mod DigitLemmas
 pub mod CleanLemmas
 pub mod WrittenVotesLemmas
+pub mod UsualLemmas
 pub mod WrittenMetadataLemmas
 pub mod RoundTripLemmas

@@ -38,7 +38,7 @@ stood_before seen order x r b s h t = sym (set.contains-from_list_nat order x) �
 pub seen_push : (seen : Set) (order : List ℕ) (x : ℕ) → seen ≡ set.from_list {R = nat_cmp} order → set.insert seen x ≡ set.from_list {R = nat_cmp} (order ++ x ∷ [])
 seen_push seen order x s = ap (λ z. set.insert z x) s ∙ sym (set.from_list_push nat_cmp_total nat_cmp-IsAntisymmetric order x)
 
-ranged : (m x : ℕ) → 1 ≤ x → x ≤ m → (nat_le 1 x && nat_le x m) ≡ true
+pub ranged : (m x : ℕ) → 1 ≤ x → x ≤ m → (nat_le 1 x && nat_le x m) ≡ true
 ranged m x a b = grind (arith, nat_tests)
 
 none_of : (a b : Bool) (r s : Option AddFault) → cond a (cond b (Some faults.Repeated) r) (Some faults.OutOfRange) ≡ None → (r ≡ None → s ≡ None) → cond a (cond b (Some faults.Repeated) s) (Some faults.OutOfRange) ≡ None

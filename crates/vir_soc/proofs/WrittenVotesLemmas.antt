@@ -38,7 +38,7 @@ small_first x xs h = h.each 0 0 (omega arith)
 small_rest : (x : ℕ) (xs : List ℕ) → AreSmall (x ∷ xs) → AreSmall xs
 small_rest x xs h = record { each = λ k d l. h.each (suc k) d (omega arith) }
 
-no_comma : (x : ℕ) → x < 2 ^ 64 → All (λ c. is_comma c ≡ false) (decimal x)
+pub no_comma : (x : ℕ) → x < 2 ^ 64 → All (λ c. is_comma c ≡ false) (decimal x)
 no_comma x h = All-none is_comma (decimal x) (list_any-decimal is_comma comma_fails x h)
 
 split_order : (x : ℕ) (xs : List ℕ) → AreSmall (x ∷ xs) → slice_split is_comma (order_text (x ∷ xs)) ≡ map decimal (x ∷ xs)
@@ -56,10 +56,10 @@ fault_first true true next h = absurd cc
 fault_first true false next h = (refl, refl, h)
 fault_first false again next h = absurd cc
 
-in_range : (m x : ℕ) → (nat_le 1 x && nat_le x m) ≡ true → (nat_eq x 0 || nat_lt m x) ≡ false
+pub in_range : (m x : ℕ) → (nat_le 1 x && nat_le x m) ≡ true → (nat_eq x 0 || nat_lt m x) ≡ false
 in_range m x h = grind (arith, nat_tests)
 
-alternative-decimal : (m x : ℕ) → x < 2 ^ 64 → (nat_le 1 x && nat_le x m) ≡ true → alternative m (decimal x) ≡ Ok x
+pub alternative-decimal : (m x : ℕ) → x < 2 ^ 64 → (nat_le 1 x && nat_le x m) ≡ true → alternative m (decimal x) ≡ Ok x
 alternative-decimal m x h r = rw (trim-clean (decimal x) (IsClean-decimal x h), number-decimal x h, in_range m x r) refl
 
 order_after-decimal : (m : ℕ) (before order : List ℕ) → AreSmall order → member_fault_after m before order ≡ None → order_after m before (map decimal order) ≡ Ok (before ++ order)

@@ -20,6 +20,7 @@ mod sayings;
 mod soc_reader;
 mod stop;
 mod told;
+mod usual;
 mod votes;
 mod write;
 

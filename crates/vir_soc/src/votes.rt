@@ -1,4 +1,5 @@
-ghost use Rattle.std.specs.Prelude.{◌≡◌, ◌≤◌, [], None, OnOk, IfOk};
+ghost use Rattle.std.specs.Prelude.{◌≡◌, ◌≤◌, [], None, Ok, OnOk, IfOk};
+ghost use Rattle.std.specs.Bool.{MatchBool};
 ghost use Rattle.std.specs.List.{list_any, slice_split};
 ghost use Rattle.vir_altset.specs.Sets.{limit};
 ghost use Rattle.vir_profile.specs.Add.{member_fault_after};
@@ -8,6 +9,7 @@ ghost use Rattle.vir_soc.specs.Votes.{alternative, is_brace, is_comma, order_aft
 use crate::bytes::{cut, number, trim};
 use crate::kind::SocKind;
 use crate::stop::Stop;
+use crate::usual::usual_line;
 use std::alloc::Global;
 use vir_profile::{AddFault, AltSet, Ballot, Entry, Profile};
 
@@ -97,8 +99,33 @@ fn add(profile: &mut Profile, count: u128, order: Vec<u16>) -> Result<(), Stop>
     }
 }
 
+/// Takes a line of votes in the usual shape, where it has that shape and there is room for it.
+fn took_usual(alloc: Global, profile: &mut Profile, text: &[u8]) -> bool
+    ensures taken { MatchBool result
+        (with_votes profile.old.alternatives profile.old.lines text.now ≡ Ok profile.new.lines)
+        (profile.new ≡ profile.old) }
+    ensures alternatives { profile.new.alternatives ≡ profile.old.alternatives }
+{
+    match usual_line(alloc, profile.alternatives(), text) {
+        Some(line) => profile.add_judged(line).is_ok(),
+        None => false,
+    }
+}
+
 /// Takes a line of votes.
 pub fn with_votes(alloc: Global, profile: &mut Profile, text: &[u8]) -> Result<(), Stop>
+    ensures exact { Gives (λ _. profile.new.lines) result
+        (with_votes profile.old.alternatives profile.old.lines text.now) }
+    ensures alternatives { OnOk result (profile.new.alternatives ≡ profile.old.alternatives) }
+{
+    if took_usual(alloc, profile, text) {
+        return Ok(());
+    }
+    with_any_votes(alloc, profile, text)
+}
+
+/// Takes a line of votes in whatever shape.
+fn with_any_votes(alloc: Global, profile: &mut Profile, text: &[u8]) -> Result<(), Stop>
     ensures exact { Gives (λ _. profile.new.lines) result
         (with_votes profile.old.alternatives profile.old.lines text.now) }
     ensures alternatives { OnOk result (profile.new.alternatives ≡ profile.old.alternatives) }
