@@ -1,40 +1,28 @@
 -- The votes of an accepted file are what its lines of votes say.
-use Rattle.std.proofs.Common.{◌≡◌, ℕ, ◌+◌, ◌<◌, true, false, not, ◌&&◌, ◌||◌, cond, List, [], ◌∷◌, ◌++◌, length, take, drop, filter, map, get_or, Option, Some, None, Result, Ok, Err, nat_eq, nat_lt, nat_le, ap, sym, ◌∙◌, refl, arith, append_assoc, append-nil}
-use Rattle.std.specs.List.{list_any, slice_split, before_first, after_first}
+use Rattle.std.proofs.Common.{◌≡◌, ℕ, ◌+◌, not, ◌||◌, List, [], ◌∷◌, ◌++◌, length, map, Option, Some, Result, Ok, nat_eq, nat_lt, nat_le, ap, sym, ◌∙◌, refl, append_assoc, append-nil}
+use Rattle.std.specs.List.{flat_map, list_any, slice_split, before_first, after_first}
 use Rattle.std.specs.Option.{ok_or}
-use Rattle.std.proofs.lemmas.Bool.Decides.{nat_tests}
 use Rattle.std.proofs.lemmas.List.{map-append}
 use Rattle.vir_profile.specs.Add.{lines_limit, voters_limit}
 use Rattle.vir_profile.specs.declared.ballot.Entry.{Entry}
 use Rattle.vir_profile.specs.Profiles.{total_weight}
 use Rattle.vir_profile.specs.SocFiles.{File}
-use Rattle.vir_soc.specs.declared.fault.SocFault.{SocFault}
 use Rattle.vir_soc.specs.declared.key.Key.{Key}
 use Rattle.vir_soc.specs.declared.key.Key.TheVariants.{DataType, Alternatives, Voters, Orders, NameOf, Other}
 use Rattle.vir_soc.specs.declared.kind.SocKind.{SocKind}
 use Rattle.vir_soc.specs.declared.kind.SocKind.TheVariants as kinds
-use Rattle.vir_soc.specs.Accepted.{Vote, as_vote, is_vote_line, unmarked, vote_lines, vote_of}
+use Rattle.vir_soc.specs.Accepted.{as_vote, ballots_in, vote_lines, vote_of}
 use Rattle.vir_soc.specs.Checks.{◌>>=◌, at_line, refuse}
-use Rattle.vir_soc.specs.Lines.{lines, trim, without_mark}
-use Rattle.vir_soc.specs.Metadata.{after_key, after_metadata, alternatives_told, is_colon, is_soc, key_of, number_told}
-use Rattle.vir_soc.specs.Names.{names_up_to, with_name}
+use Rattle.vir_soc.specs.LineKinds.{LineKind, ballots, is_colon, kinds_of, metadata, skipped}
+use Rattle.vir_soc.specs.Lines.{lines, trim}
+use Rattle.vir_soc.specs.Metadata.{after_key, alternatives_told, is_soc, number_told}
+use Rattle.vir_soc.specs.Names.{with_name}
 use Rattle.vir_soc.specs.Numbers.{number}
 use Rattle.vir_soc.specs.Said.{Said, nothing}
-use Rattle.vir_soc.specs.Soc.{after_line, after_lines, after_text, agrees, ended_said, file_of, is_hash, size_limit, soc, too_long, whole}
+use Rattle.vir_soc.specs.Soc.{after_line, after_lines, soc}
 use Rattle.vir_soc.specs.Votes.{after_votes, alternative, is_brace, is_comma, order_after, with_order, with_votes}
-
--- both steps went well where the whole did
-bound : {A B E : Type 0} (r : Result A E) (f : A → Result B E) (y : B) → (r >>= f) ≡ Ok y → (x : A) × (r ≡ Ok x) × (f x ≡ Ok y)
-bound (Ok x) f y h = (x, refl, h)
-bound (Err e) f y h = absurd cc
-
-was_some : {A E : Type 0} (o : Option A) (e : E) (x : A) → ok_or o e ≡ Ok x → o ≡ Some x
-was_some None e x h = absurd cc
-was_some (Some y) e x h = cc
-
-went_well : {A : Type 0} (line : ℕ) (r : Result A SocKind) (x : A) → at_line line r ≡ Ok x → r ≡ Ok x
-went_well line (Ok y) x h = cc
-went_well line (Err k) x h = absurd cc
+use Rattle.vir_soc.proofs.ChainLemmas.{bound, was_some, went_well}
+use Rattle.vir_soc.proofs.FileLemmas.{soc-ok}
 
 -- ---- a line of votes
 
@@ -95,7 +83,7 @@ after_votes_is said new text h =
     let n : record said { votes = b.0 } ≡ new = cc b.2 in
     ap (λ (s : Said). map as_vote s.votes) (sym n) ∙ with_votes_is a.0 said.votes text b.0 b.1
 
--- ---- metadata has no votes
+-- ---- lines
 
 after_key_is : (said new : Said) (line : ℕ) (key : Key) (value : List ℕ) → after_key said line key value ≡ Ok new → new.votes ≡ said.votes
 after_key_is said new line DataType value h =
@@ -114,93 +102,24 @@ after_key_is said new line (NameOf i) value h =
     let n : record said { names = with_name i value said.names } ≡ new = cc in ap (λ (s : Said). s.votes) (sym n)
 after_key_is said new line Other value h = let n : said ≡ new = cc in ap (λ (s : Said). s.votes) (sym n)
 
-after_metadata_is : (said new : Said) (line : ℕ) (text : List ℕ) → after_metadata said line text ≡ Ok new → new.votes ≡ said.votes
-after_metadata_is said new line text h =
-    let told = after_key said line (key_of (trim (before_first is_colon text))) (trim (after_first is_colon text)) in
-    elim (list_any is_colon text) as (λ b. cond b told (Ok said) ≡ Ok new → new.votes ≡ said.votes) [
-      | true ↦ λ e. after_key_is said new line (key_of (trim (before_first is_colon text))) (trim (after_first is_colon text)) e
-      | false ↦ λ e. let n : said ≡ new = cc in ap (λ (s : Said). s.votes) (sym n)
-    ] h
+after_line_is : (said new : Said) (n : ℕ) (kind : LineKind) → after_line said n kind ≡ Ok new → map as_vote new.votes ≡ map as_vote said.votes ++ map vote_of (ballots_in kind)
+after_line_is said new n skipped h = let e : said ≡ new = cc in ap (λ (s : Said). map as_vote s.votes) (sym e) ∙ sym (append-nil (map as_vote said.votes))
+after_line_is said new n (metadata key value) h = ap (map as_vote) (after_key_is said new n key value h) ∙ sym (append-nil (map as_vote said.votes))
+after_line_is said new n (ballots text) h = after_votes_is said new text h
 
--- ---- a line
-
--- the votes of a line, which are one or none
-abbrev votes_in : List ℕ → List Vote
-votes_in text = cond (is_vote_line text) (vote_of text ∷ []) []
-
-after_text_is : (said new : Said) (line : ℕ) (text : List ℕ) → after_text said line text ≡ Ok new → map as_vote new.votes ≡ map as_vote said.votes ++ votes_in text
-after_text_is said new line text h =
-    elim (nat_eq (length text) 0) as (λ b. cond b (Ok said) (cond (is_hash (get_or text 0 0)) (after_metadata said line (drop 1 text)) (after_votes said text)) ≡ Ok new → map as_vote new.votes ≡ map as_vote said.votes ++ cond (not b && not (is_hash (get_or text 0 0))) (vote_of text ∷ []) []) [
-      | true ↦ λ e. let n : said ≡ new = cc in ap (λ (s : Said). map as_vote s.votes) (sym n) ∙ sym (append-nil (map as_vote said.votes))
-      | false ↦ λ e. elim (is_hash (get_or text 0 0)) as (λ b. cond b (after_metadata said line (drop 1 text)) (after_votes said text) ≡ Ok new → map as_vote new.votes ≡ map as_vote said.votes ++ cond (not b) (vote_of text ∷ []) []) [
-        | true ↦ λ f. ap (map as_vote) (after_metadata_is said new line (drop 1 text) f) ∙ sym (append-nil (map as_vote said.votes))
-        | false ↦ λ f. after_votes_is said new text f
-      ] e
-    ] h
-
--- ---- lines
-
--- the line of this number without a byte order mark
-abbrev unmark : ℕ → List ℕ → List ℕ
-unmark n text = cond (nat_eq n 1) (without_mark text) text
-
-unfoldable unmarked_from : ℕ → List (List ℕ) → List (List ℕ)
-unmarked_from n [] = []
-unmarked_from n (text ∷ texts) = unmark n text ∷ unmarked_from (n + 1) texts
-
-later_marks : (n : ℕ) (texts : List (List ℕ)) → 1 < n → unmarked_from n texts ≡ texts
-unfolding unmarked_from
-later_marks n [] h = refl
-later_marks n (text ∷ texts) h =
-    let e : nat_eq n 1 ≡ false = grind (arith, nat_tests) in
-    rw (e, later_marks (n + 1) texts (omega arith)) refl
-
-first_mark : (texts : List (List ℕ)) → unmarked_from 1 texts ≡ unmarked texts
-unfolding unmarked_from
-first_mark [] = refl
-first_mark (text ∷ texts) = ap (λ ts. without_mark text ∷ ts) (later_marks 2 texts (omega arith))
-
-votes_first : (text : List ℕ) (texts : List (List ℕ)) → map vote_of (filter is_vote_line (text ∷ texts)) ≡ votes_in text ++ map vote_of (filter is_vote_line texts)
-votes_first text texts = elim (is_vote_line text) as (λ b. map vote_of (cond b (text ∷ filter is_vote_line texts) (filter is_vote_line texts)) ≡ cond b (vote_of text ∷ []) [] ++ map vote_of (filter is_vote_line texts)) [ true ↦ refl | false ↦ refl ]
-
-after_lines_is : (said new : Said) (n : ℕ) (texts : List (List ℕ)) → after_lines said n texts ≡ Ok new → map as_vote new.votes ≡ map as_vote said.votes ++ map vote_of (filter is_vote_line (map trim (unmarked_from n texts)))
-unfolding after_lines after_line unmarked_from
+after_lines_is : (said new : Said) (n : ℕ) (kinds : List LineKind) → after_lines said n kinds ≡ Ok new → map as_vote new.votes ≡ map as_vote said.votes ++ map vote_of (flat_map ballots_in kinds)
+unfolding after_lines
 after_lines_is said new n [] h = let e : said ≡ new = cc in ap (λ (s : Said). map as_vote s.votes) (sym e) ∙ sym (append-nil (map as_vote said.votes))
-after_lines_is said new n (text ∷ texts) h =
-    let a = bound (at_line n (after_line said n text)) (λ s. after_lines s (n + 1) texts) new h in
-    let line = after_text_is said a.0 n (trim (unmark n text)) (went_well n (after_line said n text) a.0 a.1) in
-    let others = map vote_of (filter is_vote_line (map trim (unmarked_from (n + 1) texts))) in
-    after_lines_is a.0 new (n + 1) texts a.2
+after_lines_is said new n (kind ∷ kinds) h =
+    let a = bound (at_line n (after_line said n kind)) (λ s. after_lines s (n + 1) kinds) new h in
+    let line = after_line_is said a.0 n kind (went_well n (after_line said n kind) a.0 a.1) in
+    let others = map vote_of (flat_map ballots_in kinds) in
+    after_lines_is a.0 new (n + 1) kinds a.2
     ∙ ap (λ vs. vs ++ others) line
-    ∙ append_assoc (map as_vote said.votes) (votes_in (trim (unmark n text))) others
-    ∙ ap (λ vs. map as_vote said.votes ++ vs) (sym (votes_first (trim (unmark n text)) (map trim (unmarked_from (n + 1) texts))))
-
--- ---- a file
-
-whole_is : (said : Said) (last : ℕ) (file : File) → whole said last ≡ Ok file → file.profile.lines ≡ said.votes
-unfolding whole
-whole_is said last file h =
-    let put : ℕ → Result File SocFault = λ m. Ok (record { profile = record { alternatives = m; lines = said.votes }; names = names_up_to m said.names }) in
-    let a = bound (at_line last (ok_or said.alternatives kinds.NoAlternativeCount)) (λ m. agrees said.voters (total_weight said.votes) kinds.VotersDiffer >>= λ _. agrees said.orders (length said.votes) kinds.OrdersDiffer >>= λ _. put m) file h in
-    let b = bound (agrees said.voters (total_weight said.votes) kinds.VotersDiffer) (λ _. agrees said.orders (length said.votes) kinds.OrdersDiffer >>= λ _. put a.0) file a.2 in
-    let d = bound (agrees said.orders (length said.votes) kinds.OrdersDiffer) (λ _. put a.0) file b.2 in
-    let f : record { profile = record { alternatives = a.0; lines = said.votes }; names = names_up_to a.0 said.names } ≡ file = cc d.2 in
-    ap (λ (g : File). g.profile.lines) (sym f)
-
-file_of_is : (texts : List (List ℕ)) (file : File) → file_of texts ≡ Ok file → map as_vote file.profile.lines ≡ map vote_of (filter is_vote_line (map trim (unmarked texts)))
-file_of_is texts file h =
-    let a = bound (after_lines nothing 1 texts) (λ said. whole said (length texts)) file h in
-    ap (map as_vote) (whole_is a.0 (length texts) file a.2)
-    ∙ after_lines_is nothing a.0 1 texts a.1
-    ∙ ap (λ ts. map vote_of (filter is_vote_line (map trim ts))) (first_mark texts)
-
-too_long_is : (r : Result Said SocFault) (line : ℕ) (file : File) → (r >>= λ _. at_line {A = File} line (Err kinds.FileTooLong)) ≡ Ok file → ⊥
-too_long_is (Ok s) line file h = cc
-too_long_is (Err e) line file h = cc
+    ∙ append_assoc (map as_vote said.votes) (map vote_of (ballots_in kind)) others
+    ∙ ap (λ vs. map as_vote said.votes ++ vs) (sym (map-append vote_of (ballots_in kind) (flat_map ballots_in kinds)))
 
 pub votes_are_lines : (bytes : List ℕ) (file : File) → soc bytes ≡ Ok file → map as_vote file.profile.lines ≡ map vote_of (vote_lines bytes)
 votes_are_lines bytes file h =
-    elim (nat_le (length bytes) size_limit) as (λ b. cond b (file_of (lines bytes)) (too_long (take size_limit bytes)) ≡ Ok file → map as_vote file.profile.lines ≡ map vote_of (vote_lines bytes)) [
-      | true ↦ λ e. file_of_is (lines bytes) file e
-      | false ↦ λ e. absurd (too_long_is (ended_said (take size_limit bytes)) (length (lines (take size_limit bytes))) file e)
-    ] h
+    let a = soc-ok bytes file h in
+    ap (map as_vote) (sym a.2.votes) ∙ after_lines_is nothing a.0 1 (kinds_of (lines bytes)) a.1

@@ -7,7 +7,7 @@ use Rattle.std.proofs.lemmas.List.Folds.{list_any-append}
 use Rattle.std.proofs.lemmas.List.Sums.{prefix_len_stops, suffix_len-take_no}
 use Rattle.vir_profile.specs.SocFiles.{IsNameText, is_blank}
 use Rattle.vir_soc.specs.Lines.{trim, trim_back, trim_front}
-use Rattle.vir_soc.specs.Metadata.{is_colon}
+use Rattle.vir_soc.specs.LineKinds.{is_colon}
 use Rattle.vir_soc.proofs.AnyLemmas.{or_false}
 use Rattle.vir_soc.proofs.DigitLemmas.{decimal-some, digit_fails, blank_fails}
 

@@ -7,9 +7,8 @@ use Rattle.std.proofs.lemmas.Bool.Decides.{nat_tests}
 use Rattle.std.proofs.lemmas.Fmt.{digits_decimal, digits_value-decimal, decimal_is_IsNumeral}
 use Rattle.std.proofs.lemmas.Str.Parse.{IsNumeralModel, numerals_by_value}
 use Rattle.vir_profile.specs.SocFiles.{is_blank, is_line_feed}
-use Rattle.vir_soc.specs.Metadata.{is_colon}
+use Rattle.vir_soc.specs.LineKinds.{is_colon, is_hash}
 use Rattle.vir_soc.specs.Numbers.{number}
-use Rattle.vir_soc.specs.Soc.{is_hash}
 use Rattle.vir_soc.specs.Votes.{is_brace, is_comma}
 use Rattle.vir_soc.proofs.AnyLemmas.{All-none}
 

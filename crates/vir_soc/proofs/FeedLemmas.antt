@@ -9,11 +9,11 @@ use Rattle.vir_soc.specs.declared.kind.SocKind.TheVariants.{FileTooLong}
 use Rattle.vir_soc.specs.Checks.{◌>>=◌, at_line, refuse, fault_of}
 use Rattle.vir_soc.specs.Lines.{lines, last_line}
 use Rattle.vir_soc.specs.Said.{Said, nothing}
-use Rattle.vir_soc.specs.Soc.{after_lines, size_limit, settled, settled_said}
-use Rattle.vir_soc.specs.Pieces.{ended, unended, Progress, Reading, reads, feeds}
+use Rattle.vir_soc.specs.Soc.{size_limit, settled, settled_said}
+use Rattle.vir_soc.specs.Pieces.{after_texts, ended, unended, Progress, Reading, reads, feeds}
 use Rattle.vir_soc.specs.Stands.{standing}
 use Rattle.vir_soc.proofs.CutLemmas.{length-lines, ended_lines-is, last_line-is}
-use Rattle.vir_soc.proofs.LineLemmas.{reads_append, reads_nothing}
+use Rattle.vir_soc.proofs.LineLemmas.{kinds_from-first, reads_append, reads_nothing}
 
 take_over : (n : ℕ) (xs ys : List ℕ) → take n (xs ++ ys) ≡ take n xs ++ take (n - length xs) ys
 take_over n xs ys =
@@ -81,12 +81,12 @@ standing_is bytes =
       | inl lt ↦ (
           let s : nat_le (length bytes) size_limit ≡ false = grind (arith, nat_tests) in
           let t : nat_lt size_limit (length bytes) ≡ true = grind (arith, nat_tests) in
-          rw (s, z, ended_lines-is w, length-lines w) (past (after_lines nothing 1 (ended [] w)) (1 + length (ended [] w)) (unended [] w) (length bytes) (λ said. record { progress = record { said = said; line = length (lines bytes); begun = last_line bytes }; size = length bytes }) t))
+          rw (s, z, ended_lines-is w, length-lines w, ← kinds_from-first (ended [] w)) (past (after_texts nothing 1 (ended [] w)) (1 + length (ended [] w)) (unended [] w) (length bytes) (λ said. record { progress = record { said = said; line = length (lines bytes); begun = last_line bytes }; size = length bytes }) t))
       | inr le ↦ (
           let s : nat_le (length bytes) size_limit ≡ true = grind (arith, nat_tests) in
           let t : nat_lt size_limit (length bytes) ≡ false = grind (arith, nat_tests) in
           let e : take size_limit bytes ≡ bytes = take_all size_limit bytes le in
-          rw (s, z, e, ended_lines-is bytes, last_line-is bytes, length-lines bytes) (within (after_lines nothing 1 (ended [] bytes)) (1 + length (ended [] bytes)) (unended [] bytes) (length bytes) t))
+          rw (s, z, e, ended_lines-is bytes, last_line-is bytes, length-lines bytes, ← kinds_from-first (ended [] bytes)) (within (after_texts nothing 1 (ended [] bytes)) (1 + length (ended [] bytes)) (unended [] bytes) (length bytes) t))
     ]
 
 -- where the rules lead from further bytes

@@ -7,7 +7,13 @@ pub mod LineLemmas
 pub mod CutLemmas
 pub mod FeedLemmas
 pub mod StandLemmas
+pub mod ChainLemmas
+pub mod FileLemmas
 pub mod AcceptedLemmas
+pub mod GivenNameLemmas
+pub mod CountLemmas
+pub mod FirstFaultLemmas
+pub mod SettledLemmas
 pub mod WriteLemmas
 pub mod DigitLemmas
 pub mod CleanLemmas

@@ -1,9 +1,9 @@
 -- A written file is read back.
-use Rattle.std.proofs.Common.{◌≡◌, ℕ, suc, ◌+◌, ◌<◌, ◌≤◌, Bool, true, false, cond, List, [], ◌∷◌, ◌++◌, length, get_or, map, codes, decimal, Some, Result, Ok, nat_eq, ap, eq-eqb, sym, ◌∙◌, refl, arith, append_assoc, append-nil}
+use Rattle.std.proofs.Common.{◌≡◌, ℕ, suc, ◌+◌, ◌≤◌, Bool, false, List, [], ◌∷◌, ◌++◌, length, get_or, map, codes, decimal, Some, Result, Ok, ap, eq-eqb, sym, ◌∙◌, refl, arith, append_assoc, append-nil}
 use Rattle.std.specs.Prelude.{All}
 use Rattle.std.specs.List.{flat_map, list_any, slice_split}
 use Rattle.std.proofs.lemmas.Bool.{le-leb}
-use Rattle.std.proofs.lemmas.List.{length-append}
+use Rattle.std.proofs.lemmas.List.{length-append, map-append}
 use Rattle.std.proofs.lemmas.List.Concat.{flat_map-append}
 use Rattle.std.proofs.lemmas.List.Folds.{list_any-append}
 use Rattle.std.proofs.lemmas.List.Splits.{slice_split_at}
@@ -14,15 +14,17 @@ use Rattle.vir_profile.specs.SocFiles.{AreNames, File, is_line_feed}
 use Rattle.vir_profile.specs.declared.ballot.Entry.{Entry}
 use Rattle.vir_profile.specs.declared.soc_file.Name.{Name}
 use Rattle.vir_soc.specs.declared.fault.SocFault.{SocFault}
-use Rattle.vir_soc.specs.Lines.{lines, trim, without_mark}
+use Rattle.vir_soc.specs.declared.key.Key.TheVariants.{DataType, Alternatives, Voters, Orders}
+use Rattle.vir_soc.specs.LineKinds.{LineKind, ballots, kinds_of, metadata, skipped, text_kind}
+use Rattle.vir_soc.specs.Lines.{lines, trim}
 use Rattle.vir_soc.specs.Said.{Said, nothing}
-use Rattle.vir_soc.specs.Soc.{after_line, after_lines, after_text, file_of, size_limit, soc, whole}
+use Rattle.vir_soc.specs.Soc.{after_line, after_lines, file_of, said_by, size_limit, soc, whole}
 use Rattle.vir_soc.specs.SocText.{counts_text, metadata_text, name_text, order_text, soc_text, votes_text}
 use Rattle.vir_soc.proofs.AnyLemmas.{All-none, or_false}
 use Rattle.vir_soc.proofs.DigitLemmas.{line_feed_fails, list_any-decimal}
 use Rattle.vir_soc.proofs.LineLemmas.{after_lines_append}
-use Rattle.vir_soc.proofs.WrittenMetadataLemmas.{alternatives_read, metadata_line, name_key_text, name_line, name_lines-one_line, names_read, names_up_to-all, orders_read, type_read, voters_read}
-use Rattle.vir_soc.proofs.WrittenVotesLemmas.{IsLine, IsLine-accepted, after_line-votes, votes_line, votes_line-one_line}
+use Rattle.vir_soc.proofs.WrittenMetadataLemmas.{alternatives_kind, alternatives_read, kind_of_name, metadata_line, name_key_text, name_kinds, name_line, name_lines-one_line, names_read, names_up_to-all, orders_kind, orders_read, type_kind, voters_kind, voters_read}
+use Rattle.vir_soc.proofs.WrittenVotesLemmas.{IsLine, IsLine-accepted, kind_of-votes, votes_line, votes_line-one_line, votes_line-read}
 
 -- ---- lines
 
@@ -46,20 +48,12 @@ lines-ended_text (text ∷ texts) h =
 is_torn-append : (first later : List (List ℕ)) → is_torn first ≡ false → is_torn later ≡ false → is_torn (first ++ later) ≡ false
 is_torn-append first later f l = list_any-append (λ text. list_any is_line_feed text) first later ∙ rw (f, l) refl
 
--- an empty line says nothing
-after_line-nothing : (said : Said) (n : ℕ) → after_line said n [] ≡ Ok said
-unfolding after_line
-after_line-nothing said n = elim (nat_eq n 1) as (λ b. after_text said n (trim (cond b (without_mark []) [])) ≡ Ok said) [ true ↦ refl | false ↦ refl ]
-
-after_lines-nothing : (said : Said) (n : ℕ) → after_lines said n ([] ∷ []) ≡ Ok said
+-- the file that some lines of these kinds are, as the text of these lines is
+soc-ended_text : (texts : List (List ℕ)) (kinds : List LineKind) (said : Said) → is_torn texts ≡ false → kinds_of (texts ++ [] ∷ []) ≡ kinds ++ skipped ∷ [] → after_lines nothing 1 kinds ≡ Ok said → length (ended_text texts) ≤ size_limit → soc (ended_text texts) ≡ whole said (length (texts ++ [] ∷ []))
 unfolding after_lines
-after_lines-nothing said n = rw (after_line-nothing said n) refl
-
--- the file that some lines are, as the text of these lines is
-soc-ended_text : (texts : List (List ℕ)) (said : Said) → is_torn texts ≡ false → after_lines nothing 1 texts ≡ Ok said → length (ended_text texts) ≤ size_limit → soc (ended_text texts) ≡ whole said (length (texts ++ [] ∷ []))
-soc-ended_text texts said torn read fits =
+soc-ended_text texts kinds said torn are read fits =
     let fits_is = le-leb (length (ended_text texts)) size_limit fits in
-    let last : after_lines nothing 1 (texts ++ [] ∷ []) ≡ Ok said = after_lines_append nothing 1 texts ([] ∷ []) ∙ rw read (after_lines-nothing said (1 + length texts)) in
+    let last : said_by (texts ++ [] ∷ []) ≡ Ok said = ap (after_lines nothing 1) are ∙ after_lines_append nothing 1 kinds (skipped ∷ []) ∙ rw read refl in
     rw fits_is (ap file_of (lines-ended_text texts torn) ∙ rw last refl)
 
 -- ---- the lines of a file
@@ -157,48 +151,93 @@ counted profile = record {
   votes = [];
 }
 
-counts_read : (profile : Votes) → IsProfile profile → after_lines nothing 1 (count_lines profile) ≡ Ok (counted profile)
-unfolding after_lines count_lines
+-- ---- what the lines are
+
+abbrev kind_of : List ℕ → LineKind
+kind_of text = text_kind (trim text)
+
+abbrev kind_of_votes : Entry → LineKind
+kind_of_votes entry = ballots (votes_line entry)
+
+abbrev count_kinds : Votes → List LineKind
+count_kinds profile =
+    metadata DataType (codes "soc")
+    ∷ metadata Alternatives (decimal profile.alternatives)
+    ∷ metadata Voters (decimal (total_weight profile.lines))
+    ∷ metadata Orders (decimal (length profile.lines))
+    ∷ []
+
+abbrev file_kinds : File → List LineKind
+file_kinds file = count_kinds file.profile ++ map kind_of_name file.names ++ map kind_of_votes file.profile.lines
+
+count_lines-kinds : (profile : Votes) → IsProfile profile → map kind_of (count_lines profile) ≡ count_kinds profile
+unfolding count_lines
+count_lines-kinds profile h =
+    let few = h.few in
+    let lines = h.lines in
+    let weights = h.weights in
+    rw (type_kind, alternatives_kind profile.alternatives (omega arith), voters_kind (total_weight profile.lines) (omega arith), orders_kind (length profile.lines) (omega arith)) refl
+
+votes_kinds : (m : ℕ) (entries : List Entry) → AreLines m entries → map kind_of (map votes_line entries) ≡ map kind_of_votes entries
+votes_kinds m [] h = refl
+votes_kinds m (e ∷ es) h = rw (kind_of-votes m e (first_line m e es h), votes_kinds m es (other_lines m e es h)) refl
+
+-- no written line begins with a byte order mark
+no_mark : (file : File) → kinds_of (written_lines file ++ [] ∷ []) ≡ map kind_of (written_lines file ++ [] ∷ [])
+unfolding count_lines
+no_mark file = refl
+
+three_parts : (a b c : List (List ℕ)) → map kind_of (a ++ b ++ c) ≡ map kind_of a ++ map kind_of b ++ map kind_of c
+three_parts a b c = map-append kind_of (a ++ b) c ∙ ap (λ ks. ks ++ map kind_of c) (map-append kind_of a b)
+
+written_kinds : (file : File) → IsProfile file.profile → AreNames file.profile.alternatives file.names → map kind_of (written_lines file) ≡ file_kinds file
+written_kinds file p n =
+    three_parts (count_lines file.profile) (map name_line file.names) (map votes_line file.profile.lines)
+    ∙ rw (count_lines-kinds file.profile p, name_kinds file.profile.alternatives 0 file.names p.few n, votes_kinds file.profile.alternatives file.profile.lines (AreLines-profile file.profile p)) refl
+
+written_lines-kinds : (file : File) → IsProfile file.profile → AreNames file.profile.alternatives file.names → kinds_of (written_lines file ++ [] ∷ []) ≡ file_kinds file ++ skipped ∷ []
+written_lines-kinds file p n =
+    no_mark file
+    ∙ map-append kind_of (written_lines file) ([] ∷ [])
+    ∙ ap (λ ks. ks ++ skipped ∷ []) (written_kinds file p n)
+
+counts_read : (profile : Votes) → IsProfile profile → after_lines nothing 1 (count_kinds profile) ≡ Ok (counted profile)
+unfolding after_lines
 counts_read profile h =
     let fewer = h.lines in
     let s2 : Said = record nothing { alternatives = Some profile.alternatives } in
     let s3 : Said = record s2 { voters = Some (record { value = total_weight profile.lines; line = 3 }) } in
-    rw (type_read nothing 1, alternatives_read nothing 2 profile.alternatives h.some h.few refl, voters_read s2 3 (total_weight profile.lines) h.weights refl, orders_read s3 4 (length profile.lines) (omega arith) refl) refl
+    rw (alternatives_read nothing 2 profile.alternatives h.some h.few refl, voters_read s2 3 (total_weight profile.lines) h.weights refl, orders_read s3 4 (length profile.lines) (omega arith) refl) refl
 
-votes_read : (m : ℕ) (said : Said) (n : ℕ) (entries : List Entry) → 1 < n → said.alternatives ≡ Some m → AreLines m entries → length said.votes + length entries ≤ lines_limit → total_weight said.votes + total_weight entries ≤ voters_limit → after_lines said n (map votes_line entries) ≡ Ok (record said { votes = said.votes ++ entries })
+votes_read : (m : ℕ) (said : Said) (n : ℕ) (entries : List Entry) → said.alternatives ≡ Some m → AreLines m entries → length said.votes + length entries ≤ lines_limit → total_weight said.votes + total_weight entries ≤ voters_limit → after_lines said n (map kind_of_votes entries) ≡ Ok (record said { votes = said.votes ++ entries })
 unfolding after_lines
-votes_read m said n [] later known h few fits = let put : List Entry → Result Said SocFault = λ votes. Ok (record said { votes = votes }) in ap put (sym (append-nil said.votes))
-votes_read m said n (e ∷ es) later known h few fits =
+votes_read m said n [] known h few fits = let put : List Entry → Result Said SocFault = λ votes. Ok (record said { votes = votes }) in ap put (sym (append-nil said.votes))
+votes_read m said n (e ∷ es) known h few fits =
     let put : List Entry → Result Said SocFault = λ votes. Ok (record said { votes = votes }) in
     let next : Said = record said { votes = said.votes ++ e ∷ [] } in
     let first = sum_by-cons (λ (entry : Entry). entry.weight) e es in
     let sum = sum_by_push (λ (entry : Entry). entry.weight) said.votes e in
     let len = length-append said.votes (e ∷ []) in
-    let line : after_line said n (votes_line e) ≡ Ok next = after_line-votes m e (first_line m e es h) said n later known (omega arith) (omega arith) in
-    rw line (votes_read m next (n + 1) es (omega arith) known (other_lines m e es h) (omega arith) (omega arith) ∙ ap put (append_assoc said.votes (e ∷ []) es))
-
--- no line of votes is the first line
-later_lines : (profile : Votes) (names : List Name) → 1 < 1 + length (count_lines profile ++ map name_line names)
-unfolding count_lines
-later_lines profile names = omega arith
+    let line : after_line said n (kind_of_votes e) ≡ Ok next = votes_line-read m e (first_line m e es h) said n known (omega arith) (omega arith) in
+    rw line (votes_read m next (n + 1) es known (other_lines m e es h) (omega arith) (omega arith) ∙ ap put (append_assoc said.votes (e ∷ []) es))
 
 -- what a file's lines say
 abbrev file_said : File → Said
 file_said file = record (counted file.profile) { names = file.names; votes = file.profile.lines }
 
-file_read : (file : File) → IsProfile file.profile → AreNames file.profile.alternatives file.names → after_lines nothing 1 (written_lines file) ≡ Ok (file_said file)
+file_read : (file : File) → IsProfile file.profile → AreNames file.profile.alternatives file.names → after_lines nothing 1 (file_kinds file) ≡ Ok (file_said file)
 file_read file p n =
     let profile = file.profile in
+    let counts = count_kinds profile in
     let named : Said = record (counted profile) { names = file.names } in
-    let names : after_lines (counted profile) (1 + length (count_lines profile)) (map name_line file.names) ≡ Ok named = names_read profile.alternatives 0 (counted profile) (1 + length (count_lines profile)) file.names p.few tt n in
-    let before : after_lines nothing 1 (count_lines profile ++ map name_line file.names) ≡ Ok named = after_lines_append nothing 1 (count_lines profile) (map name_line file.names) ∙ rw (counts_read profile p) names in
-    let later = later_lines profile file.names in
     let few = p.lines in
     let fits = p.weights in
     let few_lines : 0 + length profile.lines ≤ lines_limit = omega arith in
     let few_voters : 0 + total_weight profile.lines ≤ voters_limit = omega arith in
-    let votes = votes_read profile.alternatives named (1 + length (count_lines profile ++ map name_line file.names)) profile.lines later refl (AreLines-profile profile p) few_lines few_voters in
-    after_lines_append nothing 1 (count_lines profile ++ map name_line file.names) (map votes_line profile.lines) ∙ rw before votes
+    let names = names_read profile.alternatives 0 (counted profile) (1 + length counts) file.names tt n in
+    let before : after_lines nothing 1 (counts ++ map kind_of_name file.names) ≡ Ok named = after_lines_append nothing 1 counts (map kind_of_name file.names) ∙ rw (counts_read profile p) names in
+    let votes = votes_read profile.alternatives named (1 + length (counts ++ map kind_of_name file.names)) profile.lines refl (AreLines-profile profile p) few_lines few_voters in
+    after_lines_append nothing 1 (counts ++ map kind_of_name file.names) (map kind_of_votes profile.lines) ∙ rw before votes
 
 whole-file : (file : File) (last : ℕ) → AreNames file.profile.alternatives file.names → whole (file_said file) last ≡ Ok file
 unfolding whole
@@ -209,4 +248,4 @@ pub soc-soc_text : (file : File) → IsProfile file.profile → AreNames file.pr
 soc-soc_text file p n fits =
     let text = soc_text-lines file in
     let same_length = ap length text in
-    ap soc text ∙ soc-ended_text (written_lines file) (file_said file) (written_lines-torn file p n) (file_read file p n) (omega arith) ∙ whole-file file (length (written_lines file ++ [] ∷ [])) n
+    ap soc text ∙ soc-ended_text (written_lines file) (file_kinds file) (file_said file) (written_lines-torn file p n) (written_lines-kinds file p n) (file_read file p n) (omega arith) ∙ whole-file file (length (written_lines file ++ [] ∷ [])) n

@@ -11,11 +11,11 @@ use Rattle.vir_soc.specs.Answers.{Fails, Shows}
 use Rattle.vir_soc.specs.Checks.{◌>>=◌, at_line, fault_of}
 use Rattle.vir_soc.specs.Lines.{lines, last_line}
 use Rattle.vir_soc.specs.Said.{Said, nothing}
-use Rattle.vir_soc.specs.Soc.{after_line, after_lines, ended_said, settled, settled_said, size_limit, soc, whole}
-use Rattle.vir_soc.specs.Pieces.{closed, ended, unended, feeds, Reading}
+use Rattle.vir_soc.specs.Soc.{after_lines, ended_said, settled, settled_said, size_limit, soc, whole}
+use Rattle.vir_soc.specs.Pieces.{after_text, after_texts, closed, ended, kinds_from, unended, feeds, Reading}
 use Rattle.vir_soc.specs.Stands.{kept, standing, stands}
 use Rattle.vir_soc.proofs.CutLemmas.{lines-parts, length-lines, ended_lines-is, last_line-is}
-use Rattle.vir_soc.proofs.LineLemmas.{after_lines_append}
+use Rattle.vir_soc.proofs.LineLemmas.{after_texts_append, kinds_from-first}
 use Rattle.vir_soc.proofs.FeedLemmas.{start, standing_start, standing_append, settled_is}
 
 pub stands_start : stands [] ≡ Ok start
@@ -24,11 +24,11 @@ stands_start = ap kept standing_start
 
 -- ---- the whole file as its ended lines, and the last one
 
-last_step : (said : Said) (n : ℕ) (text : List ℕ) → (after_lines said n (text ∷ []) >>= λ s. whole s n) ≡ closed said n text
-unfolding after_lines
-last_step said n text = elim (at_line n (after_line said n text)) as (λ r. ((r >>= λ s. Ok s) >>= λ s. whole s n) ≡ (r >>= λ s. whole s n)) [ Ok s ↦ refl | Err f ↦ refl ]
+last_step : (said : Said) (n : ℕ) (text : List ℕ) → (after_texts said n (text ∷ []) >>= λ s. whole s n) ≡ closed said n text
+unfolding after_lines after_text kinds_from
+last_step said n text = elim (at_line n (after_text said n text)) as (λ r. ((r >>= λ s. Ok s) >>= λ s. whole s n) ≡ (r >>= λ s. whole s n)) [ Ok s ↦ refl | Err f ↦ refl ]
 
-then_last : (r : Result Said SocFault) (n : ℕ) (text : List ℕ) → ((r >>= λ s. after_lines s n (text ∷ [])) >>= λ s. whole s n) ≡ (r >>= λ s. closed s n text)
+then_last : (r : Result Said SocFault) (n : ℕ) (text : List ℕ) → ((r >>= λ s. after_texts s n (text ∷ [])) >>= λ s. whole s n) ≡ (r >>= λ s. closed s n text)
 then_last (Ok s) n text = last_step s n text
 then_last (Err f) n text = refl
 
@@ -47,7 +47,7 @@ soc_is bytes =
           let s : nat_le (length bytes) size_limit ≡ true = grind (arith, nat_tests) in
           let e = ended [] bytes in
           let u = unended [] bytes in
-          rw (s, ended_lines-is bytes, last_line-is bytes, length-lines bytes, lines-parts bytes, after_lines_append nothing 1 e (u ∷ [])) (then_last (after_lines nothing 1 e) (1 + length e) u))
+          rw (s, ended_lines-is bytes, last_line-is bytes, length-lines bytes, lines-parts bytes, ← kinds_from-first e, ← kinds_from-first (e ++ u ∷ []), after_texts_append nothing 1 e (u ∷ [])) (then_last (after_texts nothing 1 e) (1 + length e) u))
     ]
 
 -- ---- states

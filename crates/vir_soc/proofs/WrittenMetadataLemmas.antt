@@ -1,5 +1,5 @@
 -- A written line of metadata is read.
-use Rattle.std.proofs.Common.{◌≡◌, ℕ, ◌+◌, ◌<◌, ◌≤◌, ◌^◌, true, false, ◌||◌, cond, List, [], ◌∷◌, ◌++◌, length, map, codes, decimal, Some, None, Ok, nat_eq, nat_lt, ap, sym, ◌∙◌, refl, arith, append_assoc, append-nil}
+use Rattle.std.proofs.Common.{◌≡◌, ℕ, ◌+◌, ◌<◌, ◌≤◌, ◌^◌, true, false, ◌||◌, List, [], ◌∷◌, ◌++◌, length, map, codes, decimal, Some, None, Ok, nat_eq, nat_lt, ap, sym, ◌∙◌, refl, arith, append_assoc, append-nil}
 use Rattle.std.specs.List.{list_any}
 use Rattle.std.proofs.lemmas.Bool.{le-leb, le-ltb}
 use Rattle.std.proofs.lemmas.Bool.Decides.{nat_tests}
@@ -8,12 +8,13 @@ use Rattle.vir_altset.specs.Sets.{limit}
 use Rattle.vir_profile.specs.Add.{voters_limit}
 use Rattle.vir_profile.specs.SocFiles.{AreNamesAbove, IsNameText, is_blank, is_line_feed}
 use Rattle.vir_profile.specs.declared.soc_file.Name.{Name}
-use Rattle.vir_soc.specs.declared.key.Key.TheVariants.{NameOf}
-use Rattle.vir_soc.specs.Lines.{trim, without_mark}
-use Rattle.vir_soc.specs.Metadata.{after_key, is_colon, key_of}
+use Rattle.vir_soc.specs.declared.key.Key.TheVariants.{DataType, Alternatives, Voters, Orders, NameOf}
+use Rattle.vir_soc.specs.Keys.{key_of}
+use Rattle.vir_soc.specs.LineKinds.{LineKind, is_colon, metadata, text_kind}
+use Rattle.vir_soc.specs.Lines.{trim}
 use Rattle.vir_soc.specs.Names.{names_up_to, with_name}
 use Rattle.vir_soc.specs.Said.{Said}
-use Rattle.vir_soc.specs.Soc.{after_line, after_lines, after_text}
+use Rattle.vir_soc.specs.Soc.{after_line, after_lines}
 use Rattle.vir_soc.proofs.CleanLemmas.{IsClean, IsClean-append, IsClean-decimal, IsClean-name, after_colon, before_colon, colon_inside, last-append, trim-clean, trim-spaced}
 use Rattle.vir_soc.proofs.DigitLemmas.{colon_fails, line_feed_fails, list_any-decimal, number-decimal}
 
@@ -37,21 +38,12 @@ module _ (key value : List ℕ) (h : IsMetadata key value) where
       let behind : 0 < length (58 ∷ 32 ∷ value) = omega arith in
       IsClean-append (35 ∷ 32 ∷ key) (58 ∷ 32 ∷ value) front behind refl (ap is_blank (last-append (58 ∷ 32 ∷ []) value value_is.some) ∙ value_is.back)
 
-  after_text-metadata : (said : Said) (n : ℕ) → after_text said n (metadata_line key value) ≡ after_key said n (key_of key) value
-  after_text-metadata said n =
+  -- the line is read as its key and value
+  pub kind_of-metadata : text_kind (trim (metadata_line key value)) ≡ metadata (key_of key) value
+  kind_of-metadata =
       let z : nat_eq (length (metadata_line key value)) 0 ≡ false = grind (arith, nat_tests) in
-      rw (z, colon_inside (32 ∷ key) (32 ∷ value) h.no_colon, before_colon (32 ∷ key) (32 ∷ value) h.no_colon, after_colon (32 ∷ key) (32 ∷ value) h.no_colon, trim-spaced key h.clean_key, trim-spaced value h.clean_value) refl
-
-  no_mark : (n : ℕ) → cond (nat_eq n 1) (without_mark (metadata_line key value)) (metadata_line key value) ≡ metadata_line key value
-  no_mark n = elim (nat_eq n 1) as (λ b. cond b (without_mark (metadata_line key value)) (metadata_line key value) ≡ metadata_line key value) [ true ↦ refl | false ↦ refl ]
-
-  -- what is said after the line is what its key and value say
-  pub after_line-metadata : (said : Said) (n : ℕ) → after_line said n (metadata_line key value) ≡ after_key said n (key_of key) value
-  unfolding after_line
-  after_line-metadata said n =
-      ap (λ t. after_text said n (trim t)) (no_mark n)
-      ∙ ap (after_text said n) (trim-clean (metadata_line key value) IsClean-metadata_line)
-      ∙ after_text-metadata said n
+      ap text_kind (trim-clean (metadata_line key value) IsClean-metadata_line)
+      ∙ rw (z, colon_inside (32 ∷ key) (32 ∷ value) h.no_colon, before_colon (32 ∷ key) (32 ∷ value) h.no_colon, after_colon (32 ∷ key) (32 ∷ value) h.no_colon, trim-spaced key h.clean_key, trim-spaced value h.clean_value) refl
 
 -- ---- the counts
 
@@ -62,30 +54,39 @@ type_is = record {
   clean_value = record { some = omega arith; front = refl; back = refl };
 }
 
-pub type_read : (said : Said) (n : ℕ) → after_line said n (metadata_line (codes "DATA TYPE") (codes "soc")) ≡ Ok said
-type_read said n = after_line-metadata (codes "DATA TYPE") (codes "soc") type_is said n ∙ refl
+pub type_kind : text_kind (trim (metadata_line (codes "DATA TYPE") (codes "soc"))) ≡ metadata DataType (codes "soc")
+type_kind = kind_of-metadata (codes "DATA TYPE") (codes "soc") type_is
 
-number_is : (key : List ℕ) (n : ℕ) → n < 2 ^ 64 → list_any is_colon key ≡ false → IsClean key → IsMetadata key (decimal n)
-number_is key n h colon clean = record { no_colon = colon; clean_key = clean; clean_value = IsClean-decimal n h }
+count_kind : (key : List ℕ) (n : ℕ) → n < 2 ^ 64 → list_any is_colon key ≡ false → IsClean key → text_kind (trim (metadata_line key (decimal n))) ≡ metadata (key_of key) (decimal n)
+count_kind key n h colon clean = kind_of-metadata key (decimal n) (record { no_colon = colon; clean_key = clean; clean_value = IsClean-decimal n h })
 
-pub alternatives_read : (said : Said) (n m : ℕ) → 1 ≤ m → m ≤ limit → said.alternatives ≡ None → after_line said n (metadata_line (codes "NUMBER ALTERNATIVES") (decimal m)) ≡ Ok (record said { alternatives = Some m })
+pub alternatives_kind : (m : ℕ) → m < 2 ^ 64 → text_kind (trim (metadata_line (codes "NUMBER ALTERNATIVES") (decimal m))) ≡ metadata Alternatives (decimal m)
+alternatives_kind m h = count_kind (codes "NUMBER ALTERNATIVES") m h refl (record { some = omega arith; front = refl; back = refl })
+
+pub voters_kind : (v : ℕ) → v < 2 ^ 64 → text_kind (trim (metadata_line (codes "NUMBER VOTERS") (decimal v))) ≡ metadata Voters (decimal v)
+voters_kind v h = count_kind (codes "NUMBER VOTERS") v h refl (record { some = omega arith; front = refl; back = refl })
+
+pub orders_kind : (v : ℕ) → v < 2 ^ 64 → text_kind (trim (metadata_line (codes "NUMBER UNIQUE ORDERS") (decimal v))) ≡ metadata Orders (decimal v)
+orders_kind v h = count_kind (codes "NUMBER UNIQUE ORDERS") v h refl (record { some = omega arith; front = refl; back = refl })
+
+pub alternatives_read : (said : Said) (n m : ℕ) → 1 ≤ m → m ≤ limit → said.alternatives ≡ None → after_line said n (metadata Alternatives (decimal m)) ≡ Ok (record said { alternatives = Some m })
 alternatives_read said n m some few new =
     let z : nat_eq m 0 ≡ false = grind (arith, nat_tests) in
     let t = le-ltb limit m few in
     let b : m < 2 ^ 64 = omega arith in
-    after_line-metadata (codes "NUMBER ALTERNATIVES") (decimal m) (number_is (codes "NUMBER ALTERNATIVES") m b refl (record { some = omega arith; front = refl; back = refl })) said n ∙ rw (number-decimal m b, z, t, new) refl
+    rw (number-decimal m b, z, t, new) refl
 
-pub voters_read : (said : Said) (n v : ℕ) → v ≤ voters_limit → said.voters ≡ None → after_line said n (metadata_line (codes "NUMBER VOTERS") (decimal v)) ≡ Ok (record said { voters = Some (record { value = v; line = n }) })
+pub voters_read : (said : Said) (n v : ℕ) → v ≤ voters_limit → said.voters ≡ None → after_line said n (metadata Voters (decimal v)) ≡ Ok (record said { voters = Some (record { value = v; line = n }) })
 voters_read said n v fits new =
     let t = le-ltb voters_limit v fits in
     let b : v < 2 ^ 64 = omega arith in
-    after_line-metadata (codes "NUMBER VOTERS") (decimal v) (number_is (codes "NUMBER VOTERS") v b refl (record { some = omega arith; front = refl; back = refl })) said n ∙ rw (number-decimal v b, t, new) refl
+    rw (number-decimal v b, t, new) refl
 
-pub orders_read : (said : Said) (n v : ℕ) → v ≤ voters_limit → said.orders ≡ None → after_line said n (metadata_line (codes "NUMBER UNIQUE ORDERS") (decimal v)) ≡ Ok (record said { orders = Some (record { value = v; line = n }) })
+pub orders_read : (said : Said) (n v : ℕ) → v ≤ voters_limit → said.orders ≡ None → after_line said n (metadata Orders (decimal v)) ≡ Ok (record said { orders = Some (record { value = v; line = n }) })
 orders_read said n v fits new =
     let t = le-ltb voters_limit v fits in
     let b : v < 2 ^ 64 = omega arith in
-    after_line-metadata (codes "NUMBER UNIQUE ORDERS") (decimal v) (number_is (codes "NUMBER UNIQUE ORDERS") v b refl (record { some = omega arith; front = refl; back = refl })) said n ∙ rw (number-decimal v b, t, new) refl
+    rw (number-decimal v b, t, new) refl
 
 -- ---- a name
 
@@ -115,8 +116,8 @@ module _ (i : ℕ) (some : 1 ≤ i) (few : i ≤ limit) where
         clean_value = IsClean-name text h;
       }
 
-  pub name_read : (said : Said) (n : ℕ) (text : List ℕ) → IsNameText text → after_line said n (metadata_line (name_key_text i) text) ≡ Ok (record said { names = with_name i text said.names })
-  name_read said n text h = after_line-metadata (name_key_text i) text (name_is text h) said n ∙ ap (λ k. after_key said n k text) key_of-name
+  pub name_kind : (text : List ℕ) → IsNameText text → text_kind (trim (metadata_line (name_key_text i) text)) ≡ metadata (NameOf i) text
+  name_kind text h = kind_of-metadata (name_key_text i) text (name_is text h) ∙ ap (λ k. metadata k text) key_of-name
 
   pub name_line-one_line : (text : List ℕ) → IsNameText text → list_any is_line_feed (metadata_line (name_key_text i) text) ≡ false
   name_line-one_line text h =
@@ -142,17 +143,26 @@ with_name-last low (m ∷ ns) n h l some =
     let t : nat_lt m.number n.number ≡ true = grind (arith, nat_tests) in
     rw t (ap (λ xs. m ∷ xs) (with_name-last low ns n h.1 l some))
 
--- names in ascending order are read one behind the other
-pub names_read : (m low : ℕ) (said : Said) (n : ℕ) (names : List Name) → m ≤ limit → AreUpTo low said.names → AreNamesAbove low m names → after_lines said n (map name_line names) ≡ Ok (record said { names = said.names ++ names })
-unfolding after_lines
-names_read m low said n [] few before h = ap (λ ns. Ok (record said { names = ns })) (sym (append-nil said.names))
-names_read m low said n (name ∷ names) few before h =
+-- what the line of a name is read as
+abbrev pub kind_of_name : Name → LineKind
+kind_of_name name = metadata (NameOf name.number) name.text
+
+pub name_kinds : (m low : ℕ) (names : List Name) → m ≤ limit → AreNamesAbove low m names → map (λ text. text_kind (trim text)) (map name_line names) ≡ map kind_of_name names
+name_kinds m low [] few h = refl
+name_kinds m low (n ∷ ns) few h =
     let first = h.0 in
     let most = h.1 in
+    rw (name_kind n.number (omega arith) (omega arith) n.text h.2, name_kinds m n.number ns few h.3) refl
+
+-- names in ascending order are read one behind the other
+pub names_read : (m low : ℕ) (said : Said) (n : ℕ) (names : List Name) → AreUpTo low said.names → AreNamesAbove low m names → after_lines said n (map kind_of_name names) ≡ Ok (record said { names = said.names ++ names })
+unfolding after_lines
+names_read m low said n [] before h = ap (λ ns. Ok (record said { names = ns })) (sym (append-nil said.names))
+names_read m low said n (name ∷ names) before h =
+    let first = h.0 in
     let text = h.2 in
     let next : Said = record said { names = said.names ++ name ∷ [] } in
-    let line : after_line said n (name_line name) ≡ Ok next = name_read name.number (omega arith) (omega arith) said n name.text text ∙ ap (λ ns. Ok (record said { names = ns })) (with_name-last low said.names name before first text.some) in
-    rw line (names_read m name.number next (n + 1) names few (AreUpTo-push low name.number said.names name before (omega arith) (omega arith)) h.3 ∙ ap (λ ns. Ok (record said { names = ns })) (append_assoc said.names (name ∷ []) names))
+    rw (with_name-last low said.names name before first text.some) (names_read m name.number next (n + 1) names (AreUpTo-push low name.number said.names name before (omega arith) (omega arith)) h.3 ∙ ap (λ ns. Ok (record said { names = ns })) (append_assoc said.names (name ∷ []) names))
 
 -- no name is of a number above m
 pub names_up_to-all : (m low : ℕ) (names : List Name) → AreNamesAbove low m names → names_up_to m names ≡ names

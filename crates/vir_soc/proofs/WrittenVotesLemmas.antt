@@ -16,10 +16,10 @@ use Rattle.vir_profile.specs.declared.ballot.Entry.{Entry}
 use Rattle.vir_profile.specs.declared.refused.AddFault.{AddFault}
 use Rattle.vir_profile.specs.declared.refused.AddFault.TheVariants as faults
 use Rattle.vir_soc.specs.Lines.{trim}
-use Rattle.vir_soc.specs.Metadata.{is_colon}
+use Rattle.vir_soc.specs.LineKinds.{ballots, is_colon, is_hash, text_kind}
 use Rattle.vir_soc.specs.Numbers.{number}
 use Rattle.vir_soc.specs.Said.{Said}
-use Rattle.vir_soc.specs.Soc.{after_line, after_text, is_hash}
+use Rattle.vir_soc.specs.Soc.{after_line}
 use Rattle.vir_soc.specs.SocText.{order_text}
 use Rattle.vir_soc.specs.Votes.{alternative, is_brace, is_comma, order_after, with_votes}
 use Rattle.vir_soc.proofs.AnyLemmas.{All-none}
@@ -168,12 +168,14 @@ module _ (m : ℕ) (entry : Entry) (h : IsLine m entry) where
       let t = le-ltb voters_limit (total_weight votes + entry.weight) fits in
       rw (colon_inside (decimal entry.weight) (32 ∷ order_text entry.order) no_colon, before_colon (decimal entry.weight) (32 ∷ order_text entry.order) no_colon, number_before, after_colon (decimal entry.weight) (32 ∷ order_text entry.order) no_colon, brace, order_read m entry.order h.some h.small f.0, f.1, n, t) refl
 
-  -- what is said after the line, as any line but the first
-  pub after_line-votes : (said : Said) (n : ℕ) → 1 < n → said.alternatives ≡ Some m → length said.votes < lines_limit → total_weight said.votes + entry.weight ≤ voters_limit → after_line said n (votes_line entry) ≡ Ok (record said { votes = said.votes ++ entry ∷ [] })
-  unfolding after_line
-  after_line-votes said n later known few fits =
-      let t : nat_eq n 1 ≡ false = grind (arith, nat_tests) in
+  -- what the line is read as
+  pub kind_of-votes : text_kind (trim (votes_line entry)) ≡ ballots (votes_line entry)
+  kind_of-votes =
       let clean = IsClean-votes_line in
       let some = clean.some in
       let z : nat_eq (length (votes_line entry)) 0 ≡ false = grind (arith, nat_tests) in
-      rw t (ap (after_text said n) (trim-clean (votes_line entry) clean) ∙ rw (z, votes_line-hash, known, with_votes-line said.votes few fits) refl)
+      ap text_kind (trim-clean (votes_line entry) clean) ∙ rw (z, votes_line-hash) refl
+
+  -- what is said after the line
+  pub votes_line-read : (said : Said) (n : ℕ) → said.alternatives ≡ Some m → length said.votes < lines_limit → total_weight said.votes + entry.weight ≤ voters_limit → after_line said n (ballots (votes_line entry)) ≡ Ok (record said { votes = said.votes ++ entry ∷ [] })
+  votes_line-read said n known few fits = rw (known, with_votes-line said.votes few fits) refl

@@ -2,6 +2,8 @@ pub mod Kinds
 pub mod Checks
 pub mod Lines
 pub mod Numbers
+pub mod Keys
+pub mod LineKinds
 pub mod Names
 pub mod Said
 pub mod Metadata

@@ -1,6 +1,5 @@
--- A line of metadata.
-use Rattle.std.specs.Prelude.{ℕ, ◌||◌, Bool, false, not, List, take, drop, Option, Some, None, Result, Ok, if◌then◌else◌, nat_lt, nat_eq, codes}
-use Rattle.std.specs.List.{list_any, before_first, after_first}
+-- What is said after a line of metadata.
+use Rattle.std.specs.Prelude.{ℕ, Bool, false, not, List, Option, Some, None, Result, Ok, nat_lt, nat_eq, codes}
 use Rattle.std.specs.Option.{ok_or, option_map, unwrap_or}
 use Rattle.std.specs.Str.{bytes_eq, str_to_ascii_lowercase}
 use Rattle.vir_altset.specs.Sets.{limit}
@@ -11,13 +10,9 @@ use Rattle.vir_soc.specs.declared.kind.SocKind.{SocKind}
 use Rattle.vir_soc.specs.declared.kind.SocKind.TheVariants.{BadNumber, TooManyAlternatives, WrongType, CountDiffers}
 use Rattle.vir_soc.specs.declared.told.Told.{Told}
 use Rattle.vir_soc.specs.Checks.{◌>>=◌, refuse}
-use Rattle.vir_soc.specs.Lines.{trim}
 use Rattle.vir_soc.specs.Names.{with_name}
 use Rattle.vir_soc.specs.Numbers.{number}
 use Rattle.vir_soc.specs.Said.{Said}
-
-abbrev pub is_colon : ℕ → Bool
-is_colon c = nat_eq c 58
 
 -- whether an earlier line told another number
 abbrev pub differs : Option ℕ → ℕ → Bool
@@ -41,21 +36,6 @@ number_told earlier line value = do
   _ ← refuse (differs (option_map (λ t. t.value) earlier) n) CountDiffers
   Ok (unwrap_or earlier (record { value = n; line = line }))
 
--- the key of the name of i, where there can be an alternative i
-abbrev pub name_key : Option ℕ → Key
-name_key None = Other
-name_key (Some i) = if nat_eq i 0 || nat_lt limit i then Other else NameOf i
-
--- what a key asks for
-abbrev pub key_of : List ℕ → Key
-key_of text =
-    if bytes_eq text (codes "DATA TYPE") then DataType
-    else if bytes_eq text (codes "NUMBER ALTERNATIVES") then Alternatives
-    else if bytes_eq text (codes "NUMBER VOTERS") then Voters
-    else if bytes_eq text (codes "NUMBER UNIQUE ORDERS") then Orders
-    else if bytes_eq (take 17 text) (codes "ALTERNATIVE NAME ") then name_key (number (drop 17 text))
-    else Other
-
 -- `soc`, ASCII case ignored
 abbrev pub is_soc : List ℕ → Bool
 is_soc value = bytes_eq (str_to_ascii_lowercase value) (codes "soc")
@@ -76,9 +56,3 @@ after_key said line Orders value = do
   Ok (record said { orders = Some told })
 after_key said line (NameOf i) value = Ok (record said { names = with_name i value said.names })
 after_key said line Other value = Ok said
-
--- what is said after a line of metadata, here without its hash; one without a colon is skipped
-abbrev pub after_metadata : Said → ℕ → List ℕ → Result Said SocKind
-after_metadata said line text =
-    if list_any is_colon text then after_key said line (key_of (trim (before_first is_colon text))) (trim (after_first is_colon text))
-    else Ok said

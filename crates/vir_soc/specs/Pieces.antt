@@ -1,11 +1,31 @@
 -- How a reader goes on from line to line and from piece to piece. The format itself does not stand on this.
-use Rattle.std.specs.Prelude.{ℕ, ◌+◌, ◌-◌, List, [], ◌∷◌, ◌++◌, length, take, Result, Ok, if◌then◌else◌, nat_lt}
+use Rattle.std.specs.Prelude.{ℕ, ◌+◌, ◌-◌, List, [], ◌∷◌, ◌++◌, length, take, Result, Ok, if◌then◌else◌, nat_eq, nat_lt}
 use Rattle.vir_profile.specs.SocFiles.{File, is_line_feed}
+use Rattle.vir_soc.specs.declared.kind.SocKind.{SocKind}
 use Rattle.vir_soc.specs.declared.kind.SocKind.TheVariants.{FileTooLong}
 use Rattle.vir_soc.specs.declared.fault.SocFault.{SocFault}
 use Rattle.vir_soc.specs.Checks.{◌>>=◌, refuse, at_line}
+use Rattle.vir_soc.specs.LineKinds.{LineKind, text_kind}
+use Rattle.vir_soc.specs.Lines.{trim, without_mark}
 use Rattle.vir_soc.specs.Said.{Said}
 use Rattle.vir_soc.specs.Soc.{after_line, after_lines, whole, size_limit}
+
+-- what the line of this number is; the first one may begin with a byte order mark
+abbrev pub kind_at : ℕ → List ℕ → LineKind
+kind_at line text = text_kind (trim (if nat_eq line 1 then without_mark text else text))
+
+-- what is said after the line of this number
+unfoldable pub after_text : Said → ℕ → List ℕ → Result Said SocKind
+after_text said line text = after_line said line (kind_at line text)
+
+-- what these lines are, the first of them being that of this number
+unfoldable pub kinds_from : ℕ → List (List ℕ) → List LineKind
+kinds_from line [] = []
+kinds_from line (text ∷ texts) = kind_at line text ∷ kinds_from (line + 1) texts
+
+-- what is said after these lines
+abbrev pub after_texts : Said → ℕ → List (List ℕ) → Result Said SocFault
+after_texts said line texts = after_lines said line (kinds_from line texts)
 
 -- the lines that a line feed ends, where the first of them has begun so
 unfoldable pub ended : List ℕ → List ℕ → List (List ℕ)
@@ -26,13 +46,13 @@ pub record Progress : Type 0 where
 -- the line that has begun ends with these bytes
 abbrev pub end_line : Progress → List ℕ → Result Progress SocFault
 end_line p end = do
-  said ← at_line p.line (after_line p.said p.line (p.begun ++ end))
+  said ← at_line p.line (after_text p.said p.line (p.begun ++ end))
   Ok (record { said = said; line = p.line + 1; begun = [] })
 
 -- further bytes
 abbrev pub reads : Progress → List ℕ → Result Progress SocFault
 reads p bytes = do
-  said ← after_lines p.said p.line (ended p.begun bytes)
+  said ← after_texts p.said p.line (ended p.begun bytes)
   Ok (record { said = said; line = p.line + length (ended p.begun bytes); begun = unended p.begun bytes })
 
 -- progress, and how many bytes there were
@@ -50,5 +70,5 @@ feeds r piece = do
 -- the file, where this is its last line
 abbrev pub closed : Said → ℕ → List ℕ → Result File SocFault
 closed said last text = do
-  said ← at_line last (after_line said last text)
+  said ← at_line last (after_text said last text)
   whole said last

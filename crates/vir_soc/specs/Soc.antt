@@ -1,5 +1,5 @@
 -- What a file of strict complete orders says, or its first fault.
-use Rattle.std.specs.Prelude.{ℕ, ◌+◌, Bool, not, List, [], ◌∷◌, length, take, drop, Option, Some, None, Result, Ok, Err, if◌then◌else◌, nat_eq, nat_le, slice_index}
+use Rattle.std.specs.Prelude.{ℕ, ◌+◌, not, List, [], ◌∷◌, length, take, Option, Some, None, Result, Ok, Err, if◌then◌else◌, nat_eq, nat_le}
 use Rattle.std.specs.Option.{ok_or}
 use Rattle.vir_profile.specs.Profiles.{total_weight}
 use Rattle.vir_profile.specs.SocFiles.{File}
@@ -8,32 +8,29 @@ use Rattle.vir_soc.specs.declared.kind.SocKind.TheVariants.{NoAlternativeCount, 
 use Rattle.vir_soc.specs.declared.fault.SocFault.{SocFault}
 use Rattle.vir_soc.specs.declared.told.Told.{Told}
 use Rattle.vir_soc.specs.Checks.{◌>>=◌, refuse, at_line, fault_of}
-use Rattle.vir_soc.specs.Lines.{lines, ended_lines, trim, without_mark}
-use Rattle.vir_soc.specs.Metadata.{after_metadata}
+use Rattle.vir_soc.specs.Lines.{lines, ended_lines}
+use Rattle.vir_soc.specs.LineKinds.{LineKind, skipped, metadata, ballots, kinds_of}
+use Rattle.vir_soc.specs.Metadata.{after_key}
 use Rattle.vir_soc.specs.Names.{names_up_to}
 use Rattle.vir_soc.specs.Said.{Said, nothing}
 use Rattle.vir_soc.specs.Votes.{after_votes}
 
-abbrev pub is_hash : ℕ → Bool
-is_hash c = nat_eq c 35
-
--- what is said after a line without blanks at its ends: an empty one is skipped, one that begins with a hash is metadata
-abbrev pub after_text : Said → ℕ → List ℕ → Result Said SocKind
-after_text said line text =
-    if nat_eq (length text) 0 then Ok said
-    else if is_hash (slice_index text 0) then after_metadata said line (drop 1 text)
-    else after_votes said text
-
--- what is said after the line of this number; the first one may begin with a byte order mark
-unfoldable pub after_line : Said → ℕ → List ℕ → Result Said SocKind
-after_line said line text = after_text said line (trim (if nat_eq line 1 then without_mark text else text))
+-- what is said after the line of this number, which is of this kind
+abbrev pub after_line : Said → ℕ → LineKind → Result Said SocKind
+after_line said line skipped = Ok said
+after_line said line (metadata key value) = after_key said line key value
+after_line said line (ballots text) = after_votes said text
 
 -- what is said after these lines, which are judged in order, the first of them being that of this number
-unfoldable pub after_lines : Said → ℕ → List (List ℕ) → Result Said SocFault
+unfoldable pub after_lines : Said → ℕ → List LineKind → Result Said SocFault
 after_lines said line [] = Ok said
-after_lines said line (text ∷ texts) = do
-  said ← at_line line (after_line said line text)
-  after_lines said (line + 1) texts
+after_lines said line (kind ∷ kinds) = do
+  said ← at_line line (after_line said line kind)
+  after_lines said (line + 1) kinds
+
+-- what lines say, or their first fault
+abbrev pub said_by : List (List ℕ) → Result Said SocFault
+said_by texts = after_lines nothing 1 (kinds_of texts)
 
 -- a number that metadata told is this one; the fault stands at the line that told it
 abbrev pub agrees : Option Told → ℕ → SocKind → Result (Unit {0}) SocFault
@@ -51,7 +48,7 @@ whole said last = do
 -- the file that these lines are, or its first fault
 abbrev pub file_of : List (List ℕ) → Result File SocFault
 file_of texts = do
-  said ← after_lines nothing 1 texts
+  said ← said_by texts
   whole said (length texts)
 
 -- the most bytes that a file may have
@@ -60,7 +57,7 @@ size_limit = 268435456
 
 -- what the lines say that a line feed ends, or their first fault
 abbrev pub ended_said : List ℕ → Result Said SocFault
-ended_said bytes = after_lines nothing 1 (ended_lines bytes)
+ended_said bytes = said_by (ended_lines bytes)
 
 -- the fault of a file that has these bytes and more than it may: that of an ended line, else FileTooLong at the line that goes on
 abbrev pub too_long : {A : Type 0} → List ℕ → Result A SocFault

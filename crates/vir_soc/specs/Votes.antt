@@ -1,4 +1,4 @@
--- A line of votes.
+-- What is said after a line of votes.
 use Rattle.std.specs.Prelude.{ℕ, ◌+◌, ◌||◌, Bool, not, List, [], ◌∷◌, ◌++◌, length, Result, Ok, nat_le, nat_lt, nat_eq}
 use Rattle.std.specs.List.{list_any, slice_split, before_first, after_first}
 use Rattle.std.specs.Option.{ok_or}
@@ -9,7 +9,7 @@ use Rattle.vir_soc.specs.declared.kind.SocKind.{SocKind}
 use Rattle.vir_soc.specs.declared.kind.SocKind.TheVariants.{NoAlternativeCount, BadCount, NoColon, BadEntry, OutOfRange, Repeated, Short, Tie, TooManyOrders, TooManyVoters}
 use Rattle.vir_soc.specs.Checks.{◌>>=◌, refuse}
 use Rattle.vir_soc.specs.Lines.{trim}
-use Rattle.vir_soc.specs.Metadata.{is_colon}
+use Rattle.vir_soc.specs.LineKinds.{is_colon}
 use Rattle.vir_soc.specs.Numbers.{number}
 use Rattle.vir_soc.specs.Said.{Said}
 

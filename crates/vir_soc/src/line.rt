@@ -1,8 +1,10 @@
 ghost use Rattle.std.specs.Prelude.{◌≡◌, false, nat_eq, if◌then◌else◌};
 ghost use Rattle.std.specs.List.{list_any};
 ghost use Rattle.vir_profile.specs.SocFiles.{is_line_feed};
+ghost use Rattle.vir_soc.specs.LineKinds.{text_kind};
 ghost use Rattle.vir_soc.specs.Lines.{without_mark};
-ghost use Rattle.vir_soc.specs.Soc.{after_line, after_text};
+ghost use Rattle.vir_soc.specs.Pieces as rules;
+ghost use Rattle.vir_soc.specs.Soc.{after_line};
 ghost use Rattle.vir_soc.specs.Steps.{Gives};
 ghost use Rattle.vir_soc.specs.Views.{said_of};
 ghost use Rattle.vir_soc.specs.Votes.{after_votes};
@@ -26,7 +28,7 @@ fn after_votes(alloc: Global, said: &mut Sayings, text: &[u8]) -> Result<(), Sto
 
 fn after_text(alloc: Global, said: &mut Sayings, line: u64, text: &[u8]) -> Result<(), Stop>
     requires { list_any is_line_feed text.now ≡ false }
-    ensures { Gives (λ _. said_of said.new) result (after_text (said_of said.old) line text.now) }
+    ensures { Gives (λ _. said_of said.new) result (after_line (said_of said.old) line (text_kind text.now)) }
 {
     if text.is_empty() {
         return Ok(());
@@ -46,10 +48,10 @@ fn unmarked(line: u64, text: &[u8]) -> &[u8]
 }
 
 /// Takes the line of this number, without its line feed.
-#[tactic(auto, unfolding(crate::specs::Soc::after_line))]
+#[tactic(auto, unfolding(crate::specs::Pieces::after_text))]
 pub fn after_line(alloc: Global, said: &mut Sayings, line: u64, text: &[u8]) -> Result<(), Stop>
     requires { list_any is_line_feed text.now ≡ false }
-    ensures { Gives (λ _. said_of said.new) result (after_line (said_of said.old) line text.now) }
+    ensures { Gives (λ _. said_of said.new) result (rules.after_text (said_of said.old) line text.now) }
 {
     after_text(alloc, said, line, trim(unmarked(line, text)))
 }

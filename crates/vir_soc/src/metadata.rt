@@ -2,8 +2,11 @@ ghost use Rattle.std.specs.Prelude.{◌≡◌, ◌≤◌, ◌<◌, false, length
 ghost use Rattle.std.specs.List.{list_any};
 ghost use Rattle.vir_altset.specs.Sets.{limit};
 ghost use Rattle.vir_profile.specs.SocFiles.{IsNameText, is_line_feed};
-ghost use Rattle.vir_soc.specs.Metadata.{after_key, after_metadata, alternatives_told, is_soc, key_of, name_key, number_told};
+ghost use Rattle.vir_soc.specs.Keys.{key_of, name_key};
+ghost use Rattle.vir_soc.specs.LineKinds.{hash_kind};
+ghost use Rattle.vir_soc.specs.Metadata.{after_key, alternatives_told, is_soc, number_told};
 ghost use Rattle.vir_soc.specs.Names.{with_name};
+ghost use Rattle.vir_soc.specs.Soc.{after_line};
 ghost use Rattle.vir_soc.specs.Steps.{Gives, IsKey};
 ghost use Rattle.vir_soc.specs.Views.{said_of};
 
@@ -167,7 +170,7 @@ fn after_key(
 pub fn after_metadata(alloc: Global, said: &mut Sayings, line: u64, text: &[u8]) -> Result<(), Stop>
     requires { list_any is_line_feed text.now ≡ false }
     ensures { Gives (λ _. said_of said.new) result
-        (after_metadata (said_of said.old) line text.now) }
+        (after_line (said_of said.old) line (hash_kind text.now)) }
 {
     let (before, after) = cut(b':', text);
     match after {

@@ -4,7 +4,10 @@ use crate::samples::{FULL, SMALL};
 use std::alloc::AllocError;
 use std::process::Abort;
 use vir_profile::SocFile;
-use vir_soc::{fault_stays, votes_are_lines, write_soc, written_files_read_back};
+use vir_soc::{
+    fault_is_settled_with_its_line, fault_stays, metadata_is_true, names_are_the_last_given,
+    no_line_before_has_a_fault, votes_are_lines, write_soc, written_files_read_back,
+};
 
 fn expect_name(rt: &impl Abort, file: &SocFile, number: u16, name: Option<&[u8]>) {
     assert!(rt; file.name(number) == name, "the name of {number}");
@@ -84,5 +87,9 @@ fn files_are_written(rt: HostRuntime) -> Result<(), AllocError> {
 fn laws_can_be_called() {
     fault_stays();
     votes_are_lines();
+    names_are_the_last_given();
+    metadata_is_true();
+    no_line_before_has_a_fault();
+    fault_is_settled_with_its_line();
     written_files_read_back();
 }

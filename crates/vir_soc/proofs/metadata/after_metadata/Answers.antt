@@ -2,7 +2,7 @@ use Rattle.std.proofs.Common.{◌≡◌, ◌+◌, ◌<◌, List, ℕ, ap, ◌∙
 use Rattle.std.specs.List.{list_any, after_first, position_or_len}
 use Rattle.vir_profile.specs.SocFiles.{IsNameText, is_line_feed}
 use Rattle.vir_soc.specs.Lines.{trim}
-use Rattle.vir_soc.specs.Metadata.{is_colon}
+use Rattle.vir_soc.specs.LineKinds.{is_colon}
 use Rattle.vir_soc.proofs.AnyLemmas.{list_any-drop}
 use Rattle.vir_soc.proofs.TrimLemmas.{IsNameText-trim}
 use Rattle.vir_soc.proofs.metadata.after_metadata.Goals as goal
