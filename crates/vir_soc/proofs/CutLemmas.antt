@@ -7,7 +7,7 @@ use Rattle.std.proofs.lemmas.List.Splits.{slice_split_at, slice_split_none}
 use Rattle.std.proofs.lemmas.List.Folds.{list_any-append}
 use Rattle.vir_profile.specs.SocFiles.{is_line_feed}
 use Rattle.vir_soc.specs.Lines.{lines, ended_lines, last_line}
-use Rattle.vir_soc.specs.Pieces.{ended, unended}
+use Rattle.vir_soc.specs.Reader.Pieces.{ended, unended}
 use Rattle.vir_soc.proofs.AnyLemmas.{All-none}
 
 lines_from : (begun bytes : List ℕ) → list_any is_line_feed begun ≡ false → slice_split is_line_feed (begun ++ bytes) ≡ ended begun bytes ++ unended begun bytes ∷ []

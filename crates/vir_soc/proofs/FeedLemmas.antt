@@ -10,8 +10,8 @@ use Rattle.vir_soc.specs.Checks.{◌>>=◌, at_line, refuse, fault_of}
 use Rattle.vir_soc.specs.Lines.{lines, last_line}
 use Rattle.vir_soc.specs.Said.{Said, nothing}
 use Rattle.vir_soc.specs.Soc.{size_limit, settled, settled_said}
-use Rattle.vir_soc.specs.Pieces.{after_texts, ended, unended, Progress, Reading, reads, feeds}
-use Rattle.vir_soc.specs.Stands.{standing}
+use Rattle.vir_soc.specs.Reader.Pieces.{after_texts, ended, unended, Progress, Reading, reads, feeds}
+use Rattle.vir_soc.specs.Reader.Stands.{standing}
 use Rattle.vir_soc.proofs.CutLemmas.{length-lines, ended_lines-is, last_line-is}
 use Rattle.vir_soc.proofs.LineLemmas.{kinds_from-first, reads_append, reads_nothing}
 

@@ -11,7 +11,7 @@ use Rattle.vir_soc.specs.Said.{Said}
 use Rattle.vir_soc.specs.LineKinds.{LineKind, kinds_of, text_kind}
 use Rattle.vir_soc.specs.Lines.{trim, without_mark}
 use Rattle.vir_soc.specs.Soc.{after_line, after_lines}
-use Rattle.vir_soc.specs.Pieces.{after_text, after_texts, ended, kinds_from, unended, Progress, reads, end_line}
+use Rattle.vir_soc.specs.Reader.Pieces.{after_text, after_texts, ended, kinds_from, unended, Progress, reads, end_line}
 
 -- cut in two
 pub ended_append : (begun xs ys : List ℕ) → ended begun (xs ++ ys) ≡ ended begun xs ++ ended (unended begun xs) ys

@@ -6,7 +6,7 @@ use Rattle.std.specs.List.{insert}
 use Rattle.vir_profile.specs.declared.soc_file.Name.{Name}
 use Rattle.vir_profile.specs.SocFiles.{AreNamesAbove, IsNameText}
 use Rattle.vir_soc.specs.Names.{named, names_up_to, with_name}
-use Rattle.vir_soc.specs.Places.{place, without}
+use Rattle.vir_soc.specs.Reader.Places.{place, without}
 
 module _ (i : ℕ) (text : List ℕ) where
   put_at : (b : Bool) (n : Name) (ns : List Name) → with_name i text ns ≡ take (place i ns) ns ++ named i text ++ without i (drop (place i ns) ns) → cond b (n ∷ with_name i text ns) (cond (nat_eq n.number i) (named i text ++ ns) (named i text ++ n ∷ ns)) ≡ take (cond b (1 + place i ns) 0) (n ∷ ns) ++ named i text ++ without i (drop (cond b (1 + place i ns) 0) (n ∷ ns))

@@ -13,10 +13,10 @@ use Rattle.vir_soc.specs.declared.told.Told.{Told}
 use Rattle.vir_soc.specs.Checks.{◌>>=◌, at_line, fault_of, refuse}
 use Rattle.vir_soc.specs.Lines.{last_line, lines}
 use Rattle.vir_soc.specs.Names.{names_up_to}
-use Rattle.vir_soc.specs.Pieces.{Progress, Reading, after_text, after_texts, closed, ended, feeds, kinds_from, reads, unended}
+use Rattle.vir_soc.specs.Reader.Pieces.{Progress, Reading, after_text, after_texts, closed, ended, feeds, kinds_from, reads, unended}
 use Rattle.vir_soc.specs.Said.{Said}
 use Rattle.vir_soc.specs.Soc.{agrees, settled, settled_said, size_limit, soc, whole}
-use Rattle.vir_soc.specs.Stands.{standing}
+use Rattle.vir_soc.specs.Reader.Stands.{standing}
 use Rattle.vir_soc.proofs.CutLemmas.{length-lines}
 use Rattle.vir_soc.proofs.FeedLemmas.{standing_append}
 use Rattle.vir_soc.proofs.FirstFaultLemmas.{fault_within, line_is}

@@ -7,13 +7,13 @@ use Rattle.vir_soc.specs.declared.fault.SocFault.{SocFault}
 use Rattle.vir_soc.specs.declared.fault.SocError.{SocError}
 use Rattle.vir_soc.specs.declared.fault.SocError.TheVariants.{Fault, Memory}
 use Rattle.vir_soc.specs.declared.kind.SocKind.TheVariants.{FileTooLong}
-use Rattle.vir_soc.specs.Answers.{Fails, Shows}
+use Rattle.vir_soc.specs.Reader.Answers.{Fails, Shows}
 use Rattle.vir_soc.specs.Checks.{◌>>=◌, at_line, fault_of}
 use Rattle.vir_soc.specs.Lines.{lines, last_line}
 use Rattle.vir_soc.specs.Said.{Said, nothing}
 use Rattle.vir_soc.specs.Soc.{after_lines, ended_said, settled, settled_said, size_limit, soc, whole}
-use Rattle.vir_soc.specs.Pieces.{after_text, after_texts, closed, ended, kinds_from, unended, feeds, Reading}
-use Rattle.vir_soc.specs.Stands.{kept, standing, stands}
+use Rattle.vir_soc.specs.Reader.Pieces.{after_text, after_texts, closed, ended, kinds_from, unended, feeds, Reading}
+use Rattle.vir_soc.specs.Reader.Stands.{kept, standing, stands}
 use Rattle.vir_soc.proofs.CutLemmas.{lines-parts, length-lines, ended_lines-is, last_line-is}
 use Rattle.vir_soc.proofs.LineLemmas.{after_texts_append, kinds_from-first}
 use Rattle.vir_soc.proofs.FeedLemmas.{start, standing_start, standing_append, settled_is}

@@ -1,3 +1,4 @@
+-- the format
 pub mod Kinds
 pub mod Checks
 pub mod Lines
@@ -9,11 +10,8 @@ pub mod Said
 pub mod Metadata
 pub mod Votes
 pub mod Soc
-pub mod Accepted
 pub mod SocText
-pub mod Answers
-pub mod Steps
-pub mod Places
-pub mod Pieces
-pub mod Views
-pub mod Stands
+-- the format's laws
+pub mod Accepted
+-- how a reader goes on: the format does not stand on this
+pub mod Reader

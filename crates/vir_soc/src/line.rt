@@ -3,10 +3,10 @@ ghost use Rattle.std.specs.List.{list_any};
 ghost use Rattle.vir_profile.specs.SocFiles.{is_line_feed};
 ghost use Rattle.vir_soc.specs.LineKinds.{text_kind};
 ghost use Rattle.vir_soc.specs.Lines.{without_mark};
-ghost use Rattle.vir_soc.specs.Pieces as rules;
+ghost use Rattle.vir_soc.specs.Reader.Pieces as rules;
 ghost use Rattle.vir_soc.specs.Soc.{after_line};
-ghost use Rattle.vir_soc.specs.Steps.{Gives};
-ghost use Rattle.vir_soc.specs.Views.{said_of};
+ghost use Rattle.vir_soc.specs.Reader.Steps.{Gives};
+ghost use Rattle.vir_soc.specs.Reader.Views.{said_of};
 ghost use Rattle.vir_soc.specs.Votes.{after_votes};
 
 use crate::bytes::{trim, without_mark};
@@ -48,7 +48,7 @@ fn unmarked(line: u64, text: &[u8]) -> &[u8]
 }
 
 /// Takes the line of this number, without its line feed.
-#[tactic(auto, unfolding(crate::specs::Pieces::after_text))]
+#[tactic(auto, unfolding(crate::specs::Reader::Pieces::after_text))]
 pub fn after_line(alloc: Global, said: &mut Sayings, line: u64, text: &[u8]) -> Result<(), Stop>
     requires { list_any is_line_feed text.now ≡ false }
     ensures { Gives (λ _. said_of said.new) result (rules.after_text (said_of said.old) line text.now) }

@@ -1,9 +1,9 @@
 ghost use Rattle.std.specs.Prelude.{◌≡◌, ◌+◌, ◌++◌, ◌<◌, ◌≤◌, ◌^◌, [], false, length, nat_eq, OnOk};
 ghost use Rattle.std.specs.List.{list_any};
 ghost use Rattle.vir_profile.specs.SocFiles.{is_line_feed};
-ghost use Rattle.vir_soc.specs.Answers.{Answers};
-ghost use Rattle.vir_soc.specs.Pieces as rules;
-ghost use Rattle.vir_soc.specs.Views.{progress_of};
+ghost use Rattle.vir_soc.specs.Reader.Answers.{Answers};
+ghost use Rattle.vir_soc.specs.Reader.Pieces as rules;
+ghost use Rattle.vir_soc.specs.Reader.Views.{progress_of};
 
 use crate::bytes::cut;
 use crate::fault::{SocError, SocFault};

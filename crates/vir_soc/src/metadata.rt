@@ -7,8 +7,8 @@ ghost use Rattle.vir_soc.specs.LineKinds.{hash_kind};
 ghost use Rattle.vir_soc.specs.Metadata.{after_key, alternatives_told, is_soc, number_told};
 ghost use Rattle.vir_soc.specs.Names.{with_name};
 ghost use Rattle.vir_soc.specs.Soc.{after_line};
-ghost use Rattle.vir_soc.specs.Steps.{Gives, IsKey};
-ghost use Rattle.vir_soc.specs.Views.{said_of};
+ghost use Rattle.vir_soc.specs.Reader.Steps.{Gives, IsKey};
+ghost use Rattle.vir_soc.specs.Reader.Views.{said_of};
 
 use crate::bytes::{cut, number, trim};
 use crate::key::Key;

@@ -2,7 +2,7 @@ ghost use Rattle.std.specs.Prelude.{◌≡◌, ◌≤◌, [], take, drop, ◌++�
 ghost use Rattle.vir_altset.specs.Sets.{limit};
 ghost use Rattle.vir_profile.specs.SocFiles.{AreNames, IsNameText};
 ghost use Rattle.vir_soc.specs.Names.{with_name, names_up_to};
-ghost use Rattle.vir_soc.specs.Places.{place, without};
+ghost use Rattle.vir_soc.specs.Reader.Places.{place, without};
 
 use std::alloc::{AllocFailed, Global};
 use std::marker::Model;

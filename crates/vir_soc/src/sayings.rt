@@ -1,7 +1,7 @@
 ghost use Rattle.std.specs.Prelude.{◌≡◌, OnOk};
 ghost use Rattle.vir_soc.specs.Said.{nothing};
-ghost use Rattle.vir_soc.specs.Steps.{Follows, alternatives_taken};
-ghost use Rattle.vir_soc.specs.Views.{alternatives_of, said_of, votes_of};
+ghost use Rattle.vir_soc.specs.Reader.Steps.{Follows, alternatives_taken};
+ghost use Rattle.vir_soc.specs.Reader.Views.{alternatives_of, said_of, votes_of};
 
 use crate::kind::SocKind;
 use crate::metadata::alternatives_told;

@@ -1,11 +1,11 @@
 ghost use Rattle.std.specs.Prelude.{◌≡◌, ◌+◌, ◌++◌, ◌≤◌, [], List, ℕ, None, Err, OnOk, IfOk, IfErr};
 ghost use Rattle.vir_soc.specs.declared.fault.SocError.{SocError};
-ghost use Rattle.vir_soc.specs.Answers.{Answers, Shows};
-ghost use Rattle.vir_soc.specs.Pieces.{closed, feeds};
+ghost use Rattle.vir_soc.specs.Reader.Answers.{Answers, Shows};
+ghost use Rattle.vir_soc.specs.Reader.Pieces.{closed, feeds};
 ghost use Rattle.vir_soc.specs.Soc.{agrees, settled, size_limit, soc, whole};
-ghost use Rattle.vir_soc.specs.Stands.{stands};
-ghost use Rattle.vir_soc.specs.Steps.{Follows};
-ghost use Rattle.vir_soc.specs.Views.{reading_of, said_of};
+ghost use Rattle.vir_soc.specs.Reader.Stands.{stands};
+ghost use Rattle.vir_soc.specs.Reader.Steps.{Follows};
+ghost use Rattle.vir_soc.specs.Reader.Views.{reading_of, said_of};
 
 use crate::fault::{SocError, SocFault};
 use crate::kind::SocKind;
@@ -113,9 +113,9 @@ pub struct SocReader {
 impl Model for SocReader {
     ghost use Rattle.std.specs.Prelude.{◌≡◌, ◌+◌, ◌≤◌, Result, None};
     ghost use Rattle.vir_soc.specs.declared.fault.SocError.{SocError};
-    ghost use Rattle.vir_soc.specs.Pieces.{Reading};
+    ghost use Rattle.vir_soc.specs.Reader.Pieces.{Reading};
     ghost use Rattle.vir_soc.specs.Soc.{size_limit};
-    ghost use Rattle.vir_soc.specs.Stands.{state_of};
+    ghost use Rattle.vir_soc.specs.Reader.Stands.{state_of};
 
     ghost Value = { Result Reading SocError };
 

@@ -3,7 +3,7 @@ ghost use Rattle.std.specs.Bool.{MatchBool};
 ghost use Rattle.std.specs.List.{list_any, slice_split};
 ghost use Rattle.vir_altset.specs.Sets.{limit};
 ghost use Rattle.vir_profile.specs.Add.{member_fault_after};
-ghost use Rattle.vir_soc.specs.Steps.{Gives, stop_of};
+ghost use Rattle.vir_soc.specs.Reader.Steps.{Gives, stop_of};
 ghost use Rattle.vir_soc.specs.Votes.{alternative, is_brace, is_comma, order_after, with_order, with_votes};
 
 use crate::bytes::{cut, number, trim};

@@ -10,11 +10,11 @@ use Rattle.vir_soc.specs.declared.fault.SocFault.{SocFault}
 use Rattle.vir_soc.specs.declared.soc_reader.SocReader.{SocReader}
 use Rattle.vir_soc.specs.declared.fault.SocError.{SocError}
 use Rattle.vir_soc.specs.declared.fault.SocError.TheVariants.{Fault, Memory}
-use Rattle.vir_soc.specs.Answers.{Shows}
+use Rattle.vir_soc.specs.Reader.Answers.{Shows}
 use Rattle.vir_soc.specs.Checks.{◌>>=◌, fault_of}
 use Rattle.vir_soc.specs.Said.{Said}
 use Rattle.vir_soc.specs.Soc.{ended_said, settled, soc, too_long, size_limit}
-use Rattle.vir_soc.specs.Stands.{stands}
+use Rattle.vir_soc.specs.Reader.Stands.{stands}
 use Rattle.vir_soc.proofs.StandLemmas.{fault_stays}
 use Rattle.virage.specs.declared.file_stop.FileStop.{FileStop}
 use Rattle.virage.specs.declared.file_stop.FileStop.TheVariants as file

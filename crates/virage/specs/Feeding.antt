@@ -6,7 +6,7 @@ use Rattle.vir_soc.specs.declared.fault.SocError.{SocError}
 use Rattle.vir_soc.specs.declared.fault.SocError.TheVariants as error
 use Rattle.vir_soc.specs.declared.soc_reader.SocReader.{SocReader}
 use Rattle.vir_soc.specs.Soc.{soc}
-use Rattle.vir_soc.specs.Stands.{stands}
+use Rattle.vir_soc.specs.Reader.Stands.{stands}
 use Rattle.virage.specs.declared.file_stop.FileStop.{FileStop}
 use Rattle.virage.specs.declared.file_stop.FileStop.TheVariants.{Fault, Refused, Memory}
 

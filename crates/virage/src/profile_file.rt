@@ -4,7 +4,7 @@ ghost use Rattle.std.specs.Io.KnownBytes.{Consumes};
 ghost use Rattle.vir_outside.specs.Faults.{Rose};
 ghost use Rattle.vir_outside.specs.Shelf.{TakesAtMost};
 ghost use Rattle.vir_soc.specs.Soc.{soc, size_limit};
-ghost use Rattle.vir_soc.specs.Stands.{stands};
+ghost use Rattle.vir_soc.specs.Reader.Stands.{stands};
 ghost use Rattle.virage.specs.Feeding.{StandsForRest, StopsRest, file_stop_of};
 ghost use Rattle.virage.specs.Files.{Reads};
 

@@ -4,11 +4,11 @@ use Rattle.std.proofs.lemmas.Result.{err_from_is_err_and}
 use Rattle.std.proofs.lemmas.List.{take_all, length-drop}
 use Rattle.vir_soc.specs.declared.fault.SocError.{SocError}
 use Rattle.vir_soc.specs.declared.fault.SocError.TheVariants as errors
-use Rattle.vir_soc.specs.Answers.{Fails}
+use Rattle.vir_soc.specs.Reader.Answers.{Fails}
 use Rattle.vir_profile.specs.SocFiles.{is_line_feed}
 use Rattle.vir_soc.specs.Checks.{◌>>=◌}
-use Rattle.vir_soc.specs.Pieces.{Progress, reads, end_line}
-use Rattle.vir_soc.specs.Views.{progress_of}
+use Rattle.vir_soc.specs.Reader.Pieces.{Progress, reads, end_line}
+use Rattle.vir_soc.specs.Reader.Views.{progress_of}
 use Rattle.vir_soc.proofs.AnyLemmas.{list_any-before_first, position-inside, position-none}
 use Rattle.vir_soc.proofs.LineLemmas.{reads_end, reads_none}
 use Rattle.vir_soc.proofs.line_reader.read.Invariants.{SoFar}

@@ -1,6 +1,6 @@
 use Rattle.std.proofs.Common.{◌≡◌, ◌+◌, ◌≤◌, length, ℕ, List}
-use Rattle.vir_soc.specs.Pieces.{Progress, reads}
-use Rattle.vir_soc.specs.Views.{progress_of}
+use Rattle.vir_soc.specs.Reader.Pieces.{Progress, reads}
+use Rattle.vir_soc.specs.Reader.Views.{progress_of}
 use Rattle.vir_soc.proofs.line_reader.read.Given as goal
 
 pub record SoFar (first now : Progress) (piece rest : List ℕ) : Type 0 where

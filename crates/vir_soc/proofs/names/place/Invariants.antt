@@ -1,5 +1,5 @@
 use Rattle.std.proofs.Common.{◌≡◌, ◌+◌, drop}
-use Rattle.vir_soc.specs.Places.{place}
+use Rattle.vir_soc.specs.Reader.Places.{place}
 use Rattle.vir_soc.proofs.names.place.Given as goal
 
 abbrev pub invariant-loop-name : goal.invariant-loop-name

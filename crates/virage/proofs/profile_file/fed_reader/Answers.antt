@@ -1,9 +1,9 @@
 use Rattle.std.proofs.Common.{◌≡◌, ℕ, ◌+◌, ◌++◌, ◌≤◌, ◌∙◌, List, None, length, take, drop, ap, sym, subst, arith}
 use Rattle.std.proofs.lemmas.Grind.{common_steps}
 use Rattle.std.proofs.lemmas.List.{take-append-le}
-use Rattle.vir_soc.specs.Answers.{Shows}
+use Rattle.vir_soc.specs.Reader.Answers.{Shows}
 use Rattle.vir_soc.specs.Soc.{settled, size_limit}
-use Rattle.vir_soc.specs.Stands.{stands}
+use Rattle.vir_soc.specs.Reader.Stands.{stands}
 use Rattle.vir_outside.proofs.Rests.{consumes_more, taken_more}
 use Rattle.virage.proofs.FedLemmas.{shown_of_rest, settled-within, length-piece}
 use Rattle.virage.proofs.profile_file.fed_reader.Goals as goal

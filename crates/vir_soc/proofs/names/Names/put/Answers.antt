@@ -1,7 +1,7 @@
 use Rattle.std.proofs.Common.{◌≤◌, [], ap, sym, ◌∙◌, arith, subst, length}
 use Rattle.vir_altset.specs.Sets.{limit}
 use Rattle.vir_profile.specs.SocFiles.{AreNames}
-use Rattle.vir_soc.specs.Places.{place}
+use Rattle.vir_soc.specs.Reader.Places.{place}
 use Rattle.vir_soc.proofs.NameLemmas.{with_name-put, with_name-removed, AreNamesAbove-with_name}
 use Rattle.vir_soc.proofs.names.Names.put.Goals as goal
 

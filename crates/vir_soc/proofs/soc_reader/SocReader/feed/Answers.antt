@@ -1,5 +1,5 @@
 use Rattle.std.proofs.Common.{sym, ◌∙◌, ap}
-use Rattle.vir_soc.specs.Stands.{state_of}
+use Rattle.vir_soc.specs.Reader.Stands.{state_of}
 use Rattle.vir_soc.proofs.StandLemmas.{fed_ok, fed_err, fed_again}
 use Rattle.vir_soc.proofs.soc_reader.SocReader.feed.Goals as goal
 

@@ -1,9 +1,9 @@
 use Rattle.std.proofs.Common.{sym, ◌∙◌, ap, Result, subst}
-use Rattle.vir_soc.specs.Stands.{state_of}
+use Rattle.vir_soc.specs.Reader.Stands.{state_of}
 use Rattle.vir_soc.specs.declared.fault.SocFault.{SocFault}
-use Rattle.vir_soc.specs.Answers.{Answers}
+use Rattle.vir_soc.specs.Reader.Answers.{Answers}
 use Rattle.vir_profile.specs.SocFiles.{File}
-use Rattle.vir_soc.specs.Views.{reading_of}
+use Rattle.vir_soc.specs.Reader.Views.{reading_of}
 use Rattle.vir_soc.proofs.StandLemmas.{closes, refuses}
 use Rattle.vir_soc.proofs.soc_reader.SocReader.finish.Goals as goal
 

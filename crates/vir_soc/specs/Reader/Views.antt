@@ -5,7 +5,7 @@ use Rattle.vir_profile.specs.Profiles.{Votes}
 use Rattle.vir_soc.specs.declared.sayings.Sayings.{Sayings}
 use Rattle.vir_soc.specs.declared.line_reader.LineReader.{LineReader}
 use Rattle.vir_soc.specs.Said.{Said}
-use Rattle.vir_soc.specs.Pieces.{Progress, Reading}
+use Rattle.vir_soc.specs.Reader.Pieces.{Progress, Reading}
 
 -- the votes so far
 abbrev pub votes_of : Option Votes → List Entry

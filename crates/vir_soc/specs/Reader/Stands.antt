@@ -7,8 +7,8 @@ use Rattle.vir_soc.specs.declared.line_reader.LineReader.{LineReader}
 use Rattle.vir_soc.specs.Checks.{◌>>=◌}
 use Rattle.vir_soc.specs.Lines.{lines, last_line}
 use Rattle.vir_soc.specs.Soc.{settled_said}
-use Rattle.vir_soc.specs.Pieces.{Reading}
-use Rattle.vir_soc.specs.Views.{reading_of}
+use Rattle.vir_soc.specs.Reader.Pieces.{Reading}
+use Rattle.vir_soc.specs.Reader.Views.{reading_of}
 
 -- where the rules lead from these bytes: what the ended lines say, the number of the last line and its bytes so far, and the size
 abbrev pub standing : List ℕ → Result Reading SocFault
