@@ -7,7 +7,7 @@ use Rattle.vir_soc.specs.declared.fault.SocFault.{SocFault}
 use Rattle.vir_soc.specs.declared.fault.SocError.{SocError}
 use Rattle.vir_soc.specs.declared.fault.SocError.TheVariants.{Fault, Memory}
 use Rattle.vir_soc.specs.declared.kind.SocKind.TheVariants.{FileTooLong}
-use Rattle.vir_soc.specs.Reader.Answers.{Fails, Shows}
+use Rattle.vir_soc.specs.Reader.Answers.{Fails, Shows, fault_in}
 use Rattle.vir_soc.specs.Checks.{◌>>=◌, at_line, fault_of}
 use Rattle.vir_soc.specs.Lines.{lines, last_line}
 use Rattle.vir_soc.specs.Said.{Said, nothing}
@@ -87,7 +87,7 @@ module _ (v : Result Reading SocError) (bytes : List ℕ) (s : v ≡ stands byte
     unfolding stands
     fed_ok r next e h = (sym (ap kept (fed r e ∙ h)), settled_is (bytes ++ piece) ∙ ap fault_of (fed r e ∙ h))
 
-    pub fed_err : (r : Reading) (stop : SocError) → v ≡ Ok r → Fails stop (feeds r piece) → Shows stop (settled (bytes ++ piece))
+    pub fed_err : (r : Reading) (stop : SocError) → v ≡ Ok r → Fails (fault_in stop) (feeds r piece) → Shows stop (settled (bytes ++ piece))
     fed_err r (Fault f) e h = settled_is (bytes ++ piece) ∙ ap fault_of (fed r e ∙ h)
     fed_err r Memory e h = tt
 
@@ -100,7 +100,7 @@ module _ (v : Result Reading SocError) (bytes : List ℕ) (s : v ≡ stands byte
   pub closes : (r : Reading) → v ≡ Ok r → soc bytes ≡ closed r.progress.said r.progress.line r.progress.begun
   closes r e = soc_is bytes ∙ closed_at (settled_said bytes) (length (lines bytes)) (last_line bytes) (length bytes) r (stood r e)
 
-  pub refuses : (stop : SocError) → v ≡ Err stop → Fails stop (soc bytes)
+  pub refuses : (stop : SocError) → v ≡ Err stop → Fails (fault_in stop) (soc bytes)
   unfolding stands
   refuses stop e =
       let w = was_err (standing bytes) stop (sym s ∙ e) in

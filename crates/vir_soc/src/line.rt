@@ -5,7 +5,7 @@ ghost use Rattle.vir_soc.specs.LineKinds.{text_kind};
 ghost use Rattle.vir_soc.specs.Lines.{without_mark};
 ghost use Rattle.vir_soc.specs.Reader.Pieces as rules;
 ghost use Rattle.vir_soc.specs.Soc.{after_line};
-ghost use Rattle.vir_soc.specs.Reader.Steps.{Gives};
+ghost use Rattle.vir_soc.specs.Reader.Answers.{Gives, kind_in};
 ghost use Rattle.vir_soc.specs.Reader.Views.{said_of};
 ghost use Rattle.vir_soc.specs.Votes.{after_votes};
 
@@ -18,7 +18,7 @@ use crate::votes::with_votes;
 use std::alloc::Global;
 
 fn after_votes(alloc: Global, said: &mut Sayings, text: &[u8]) -> Result<(), Stop>
-    ensures { Gives (λ _. said_of said.new) result (after_votes (said_of said.old) text.now) }
+    ensures { Gives kind_in (λ _. said_of said.new) result (after_votes (said_of said.old) text.now) }
 {
     match &mut said.profile {
         Some(profile) => with_votes(alloc, profile, text),
@@ -28,7 +28,7 @@ fn after_votes(alloc: Global, said: &mut Sayings, text: &[u8]) -> Result<(), Sto
 
 fn after_text(alloc: Global, said: &mut Sayings, line: u64, text: &[u8]) -> Result<(), Stop>
     requires { list_any is_line_feed text.now ≡ false }
-    ensures { Gives (λ _. said_of said.new) result (after_line (said_of said.old) line (text_kind text.now)) }
+    ensures { Gives kind_in (λ _. said_of said.new) result (after_line (said_of said.old) line (text_kind text.now)) }
 {
     if text.is_empty() {
         return Ok(());
@@ -51,7 +51,7 @@ fn unmarked(line: u64, text: &[u8]) -> &[u8]
 #[tactic(auto, unfolding(crate::specs::Reader::Pieces::after_text))]
 pub fn after_line(alloc: Global, said: &mut Sayings, line: u64, text: &[u8]) -> Result<(), Stop>
     requires { list_any is_line_feed text.now ≡ false }
-    ensures { Gives (λ _. said_of said.new) result (rules.after_text (said_of said.old) line text.now) }
+    ensures { Gives kind_in (λ _. said_of said.new) result (rules.after_text (said_of said.old) line text.now) }
 {
     after_text(alloc, said, line, trim(unmarked(line, text)))
 }

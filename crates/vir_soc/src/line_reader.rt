@@ -1,7 +1,7 @@
 ghost use Rattle.std.specs.Prelude.{◌≡◌, ◌+◌, ◌++◌, ◌<◌, ◌≤◌, ◌^◌, [], false, length, nat_eq, OnOk};
 ghost use Rattle.std.specs.List.{list_any};
 ghost use Rattle.vir_profile.specs.SocFiles.{is_line_feed};
-ghost use Rattle.vir_soc.specs.Reader.Answers.{Answers};
+ghost use Rattle.vir_soc.specs.Reader.Answers.{Gives, fault_in};
 ghost use Rattle.vir_soc.specs.Reader.Pieces as rules;
 ghost use Rattle.vir_soc.specs.Reader.Views.{progress_of};
 
@@ -83,7 +83,7 @@ pub struct LineReader {
 fn end_line(alloc: Global, reader: &mut LineReader, end: &[u8]) -> Result<(), SocError>
     requires line { reader.old.line + 1 < 2 ^ 64 }
     requires end { list_any is_line_feed end.now ≡ false }
-    ensures exact { Answers (λ _. progress_of reader.new) result
+    ensures exact { Gives fault_in (λ _. progress_of reader.new) result
         (rules.end_line (progress_of reader.old) end.now) }
     ensures line { OnOk result (reader.new.line ≡ reader.old.line + 1) }
 {
@@ -107,7 +107,7 @@ fn end_line(alloc: Global, reader: &mut LineReader, end: &[u8]) -> Result<(), So
 /// Takes further bytes.
 pub fn read(alloc: Global, reader: &mut LineReader, piece: &[u8]) -> Result<(), SocError>
     requires { reader.old.line + length piece.now < 2 ^ 64 }
-    ensures exact { Answers (λ _. progress_of reader.new) result
+    ensures exact { Gives fault_in (λ _. progress_of reader.new) result
         (rules.reads (progress_of reader.old) piece.now) }
     ensures line { OnOk result (reader.new.line ≤ reader.old.line + length piece.now) }
 {

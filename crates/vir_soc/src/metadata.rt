@@ -1,13 +1,14 @@
-ghost use Rattle.std.specs.Prelude.{◌≡◌, ◌≤◌, ◌<◌, false, length, None, IfOk, Ok};
+ghost use Rattle.std.specs.Prelude.{◌≡◌, ◌≤◌, ◌<◌, false, length, Ok};
 ghost use Rattle.std.specs.List.{list_any};
 ghost use Rattle.vir_altset.specs.Sets.{limit};
 ghost use Rattle.vir_profile.specs.SocFiles.{IsNameText, is_line_feed};
 ghost use Rattle.vir_soc.specs.Keys.{key_of, name_key};
 ghost use Rattle.vir_soc.specs.LineKinds.{hash_kind};
-ghost use Rattle.vir_soc.specs.Metadata.{after_key, alternatives_told, is_soc, number_told};
+ghost use Rattle.vir_soc.specs.Metadata.{after_key, is_soc};
 ghost use Rattle.vir_soc.specs.Names.{with_name};
 ghost use Rattle.vir_soc.specs.Soc.{after_line};
-ghost use Rattle.vir_soc.specs.Reader.Steps.{Gives, IsKey};
+ghost use Rattle.vir_soc.specs.Reader.Answers.{Gives, kind_in};
+ghost use Rattle.vir_soc.specs.Reader.Steps.{IsKey};
 ghost use Rattle.vir_soc.specs.Reader.Views.{said_of};
 
 use crate::bytes::{cut, number, trim};
@@ -16,55 +17,9 @@ use crate::kind::SocKind;
 use crate::names::Names;
 use crate::sayings::{Sayings, take_alternatives};
 use crate::stop::Stop;
-use crate::told::Told;
+use crate::told::number_told;
 use std::alloc::Global;
 use vir_profile::{LIMIT, NameText};
-
-/// The number of alternatives that a value tells, beside what an earlier line told.
-pub fn alternatives_told(earlier: Option<u16>, value: &[u8]) -> Result<u16, SocKind>
-    ensures exact { result ≡ alternatives_told earlier value.now }
-    ensures range { IfOk result (λ m. earlier ≡ None → (1 ≤ m) × (m ≤ limit)) }
-{
-    let Some(n) = number(value) else {
-        return Err(SocKind::BadNumber);
-    };
-    if n == 0 {
-        return Err(SocKind::BadNumber);
-    }
-    if n > u128::from(LIMIT) {
-        return Err(SocKind::TooManyAlternatives);
-    }
-    let m = n as u16;
-    match earlier {
-        None => Ok(m),
-        Some(earlier) => if m == earlier {
-            Ok(m)
-        } else {
-            Err(SocKind::CountDiffers)
-        },
-    }
-}
-
-/// The number of voters or orders that a value tells, beside what an earlier line told.
-fn number_told(earlier: Option<Told>, line: u64, value: &[u8]) -> Result<Told, SocKind>
-    ensures { result ≡ number_told earlier line value.now }
-{
-    let Some(n) = number(value) else {
-        return Err(SocKind::BadNumber);
-    };
-    if n >= 1 << 64 {
-        return Err(SocKind::BadNumber);
-    }
-    let value = n as u64;
-    match earlier {
-        None => Ok(Told { value, line }),
-        Some(earlier) => if value == earlier.value {
-            Ok(earlier)
-        } else {
-            Err(SocKind::CountDiffers)
-        },
-    }
-}
 
 /// The key of the name of this alternative; a number above 2^64 is given as 2^64.
 fn name_key(number: Option<u128>) -> Key
@@ -113,7 +68,7 @@ fn take_name(alloc: Global, names: &mut Names, number: u16, text: &[u8]) -> Resu
     requires alternative { 1 ≤ number }
     requires limit { number ≤ limit }
     requires text { 0 < length text.now → IsNameText text.now }
-    ensures { Gives (λ _. names.new) result (Ok (with_name number text.now names.old)) }
+    ensures { Gives kind_in (λ _. names.new) result (Ok (with_name number text.now names.old)) }
 {
     if text.is_empty() {
         names.remove(number);
@@ -134,7 +89,7 @@ fn after_key(
 ) -> Result<(), Stop>
     requires key { IsKey key }
     requires value { 0 < length value.now → IsNameText value.now }
-    ensures { Gives (λ _. said_of said.new) result
+    ensures { Gives kind_in (λ _. said_of said.new) result
         (after_key (said_of said.old) line key value.now) }
 {
     match key {
@@ -143,24 +98,18 @@ fn after_key(
         } else {
             Err(Stop::Kind(SocKind::WrongType))
         },
-        Key::Alternatives => match take_alternatives(alloc, &mut said.profile, value) {
-            Ok(()) => Ok(()),
-            Err(kind) => Err(Stop::Kind(kind)),
-        },
-        Key::Voters => match number_told(said.voters, line, value) {
-            Ok(told) => {
-                said.voters = Some(told);
-                Ok(())
-            }
-            Err(kind) => Err(Stop::Kind(kind)),
-        },
-        Key::Orders => match number_told(said.orders, line, value) {
-            Ok(told) => {
-                said.orders = Some(told);
-                Ok(())
-            }
-            Err(kind) => Err(Stop::Kind(kind)),
-        },
+        Key::Alternatives => {
+            take_alternatives(alloc, &mut said.profile, value)?;
+            Ok(())
+        }
+        Key::Voters => {
+            said.voters = Some(number_told(said.voters, line, value)?);
+            Ok(())
+        }
+        Key::Orders => {
+            said.orders = Some(number_told(said.orders, line, value)?);
+            Ok(())
+        }
         Key::NameOf(number) => take_name(alloc, &mut said.names, number, value),
         Key::Other => Ok(()),
     }
@@ -169,7 +118,7 @@ fn after_key(
 /// Takes a metadata line, here without its hash.
 pub fn after_metadata(alloc: Global, said: &mut Sayings, line: u64, text: &[u8]) -> Result<(), Stop>
     requires { list_any is_line_feed text.now ≡ false }
-    ensures { Gives (λ _. said_of said.new) result
+    ensures { Gives kind_in (λ _. said_of said.new) result
         (after_line (said_of said.old) line (hash_kind text.now)) }
 {
     let (before, after) = cut(b':', text);

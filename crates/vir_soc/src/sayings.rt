@@ -1,12 +1,12 @@
 ghost use Rattle.std.specs.Prelude.{◌≡◌, OnOk};
 ghost use Rattle.vir_soc.specs.Said.{nothing};
-ghost use Rattle.vir_soc.specs.Reader.Steps.{Follows, alternatives_taken};
+ghost use Rattle.vir_soc.specs.Reader.Answers.{Follows};
+ghost use Rattle.vir_soc.specs.Reader.Steps.{alternatives_taken};
 ghost use Rattle.vir_soc.specs.Reader.Views.{alternatives_of, said_of, votes_of};
 
 use crate::kind::SocKind;
-use crate::metadata::alternatives_told;
 use crate::names::Names;
-use crate::told::Told;
+use crate::told::{Told, alternatives_told};
 use std::alloc::Global;
 use vir_profile::Profile;
 

@@ -1,10 +1,9 @@
 ghost use Rattle.std.specs.Prelude.{◌≡◌, ◌+◌, ◌++◌, ◌≤◌, [], List, ℕ, None, Err, OnOk, IfOk, IfErr};
 ghost use Rattle.vir_soc.specs.declared.fault.SocError.{SocError};
-ghost use Rattle.vir_soc.specs.Reader.Answers.{Answers, Shows};
+ghost use Rattle.vir_soc.specs.Reader.Answers.{Follows, Gives, Shows, fault_in};
 ghost use Rattle.vir_soc.specs.Reader.Pieces.{closed, feeds};
 ghost use Rattle.vir_soc.specs.Soc.{agrees, settled, size_limit, soc, whole};
 ghost use Rattle.vir_soc.specs.Reader.Stands.{stands};
-ghost use Rattle.vir_soc.specs.Reader.Steps.{Follows};
 ghost use Rattle.vir_soc.specs.Reader.Views.{reading_of, said_of};
 
 use crate::fault::{SocError, SocFault};
@@ -25,7 +24,7 @@ pub const SIZE_LIMIT: u64 = 268_435_456;
 fn take(alloc: Global, reader: &mut LineReader, size: u64, piece: &[u8]) -> Result<u64, SocError>
     requires size { size ≤ size_limit }
     requires line { reader.old.line ≤ size + 1 }
-    ensures exact { Answers (λ new. reading_of reader.new new) result
+    ensures exact { Gives fault_in (λ new. reading_of reader.new new) result
         (feeds (reading_of reader.old size) piece.now) }
     ensures size { IfOk result (λ new. (new ≤ size_limit) × (reader.new.line ≤ new + 1)) }
 {
@@ -84,7 +83,7 @@ fn whole(said: Sayings, last: u64) -> Result<SocFile, SocFault>
 
 /// The file whose last line is this one.
 fn close(alloc: Global, said: Sayings, line: u64, last: &Begun) -> Result<SocFile, SocError>
-    ensures { Answers (λ file. file) result (closed (said_of said) line last.now) }
+    ensures { Gives fault_in (λ file. file) result (closed (said_of said) line last.now) }
 {
     let mut said = said;
     match after_line(alloc, &mut said, line, last.bytes()) {
@@ -175,7 +174,7 @@ impl SocReader {
     pub fn finish(self) -> Result<SocFile, SocError>
         // It stood for some bytes: the answer is what the format says of these.
         ensures file { (bytes : List ℕ) → self ≡ stands bytes
-            → Answers (λ file. file) result (soc bytes) }
+            → Gives fault_in (λ file. file) result (soc bytes) }
         ensures again { (e : SocError) → self ≡ Err e → result ≡ Err e }
     {
         match self.stopped {

@@ -3,7 +3,8 @@ ghost use Rattle.std.specs.Bool.{MatchBool};
 ghost use Rattle.std.specs.List.{list_any, slice_split};
 ghost use Rattle.vir_altset.specs.Sets.{limit};
 ghost use Rattle.vir_profile.specs.Add.{member_fault_after};
-ghost use Rattle.vir_soc.specs.Reader.Steps.{Gives, stop_of};
+ghost use Rattle.vir_soc.specs.Reader.Answers.{Gives, kind_in};
+ghost use Rattle.vir_soc.specs.Reader.Steps.{stop_of};
 ghost use Rattle.vir_soc.specs.Votes.{alternative, is_brace, is_comma, order_after, with_order, with_votes};
 
 use crate::bytes::{cut, number, trim};
@@ -31,7 +32,7 @@ fn alternative(m: u16, part: &[u8]) -> Result<u16, SocKind>
 /// The order whose members stand between commas.
 fn order(alloc: Global, m: u16, text: &[u8]) -> Result<Vec<u16>, Stop>
     requires { m ≤ limit }
-    ensures exact { Gives (λ order. order.items) result
+    ensures exact { Gives kind_in (λ order. order.items) result
         (order_after m [] (slice_split is_comma text.now)) }
     ensures known { IfOk result (λ order. member_fault_after m [] order.items ≡ None) }
 {
@@ -80,7 +81,7 @@ fn stop_of(fault: AddFault) -> Stop
 /// given as 2^64.
 fn add(profile: &mut Profile, count: u128, order: Vec<u16>) -> Result<(), Stop>
     requires { member_fault_after profile.old.alternatives [] order.items ≡ None }
-    ensures exact { Gives (λ _. profile.new.lines) result
+    ensures exact { Gives kind_in (λ _. profile.new.lines) result
         (with_order profile.old.alternatives profile.old.lines count order.items) }
     ensures alternatives { OnOk result (profile.new.alternatives ≡ profile.old.alternatives) }
 {
@@ -114,7 +115,7 @@ fn took_usual(alloc: Global, profile: &mut Profile, text: &[u8]) -> bool
 
 /// Takes a line of votes.
 pub fn with_votes(alloc: Global, profile: &mut Profile, text: &[u8]) -> Result<(), Stop>
-    ensures exact { Gives (λ _. profile.new.lines) result
+    ensures exact { Gives kind_in (λ _. profile.new.lines) result
         (with_votes profile.old.alternatives profile.old.lines text.now) }
     ensures alternatives { OnOk result (profile.new.alternatives ≡ profile.old.alternatives) }
 {

@@ -12,21 +12,6 @@ use Rattle.vir_soc.specs.declared.stop.Stop.TheVariants.{Kind, Memory}
 use Rattle.vir_soc.specs.Checks.{◌>>=◌}
 use Rattle.vir_soc.specs.Metadata.{alternatives_told}
 
--- a kind of fault is the one that the rule gives; want of memory is free
-abbrev pub Stops : {Y : Type 0} → Stop → Result Y SocKind → Type 0
-Stops (Kind kind) rule = rule ≡ Err kind
-Stops Memory rule = Unit {0}
-
--- a step gives what the rule gives, seen by this view, unless memory runs out
-abbrev pub Gives : {X Y : Type 0} → (X → Y) → Result X Stop → Result Y SocKind → Type 0
-Gives view (Ok x) rule = rule ≡ Ok (view x)
-Gives view (Err e) rule = Stops e rule
-
--- a step that takes no memory gives what the rule gives, seen by this view
-abbrev pub Follows : {X E Y : Type 0} → (X → Y) → Result X E → Result Y E → Type 0
-Follows view (Ok x) rule = rule ≡ Ok (view x)
-Follows view (Err e) rule = rule ≡ Err e
-
 -- why a profile refused a line, as the reader says it
 abbrev pub stop_of : AddFault → Stop
 stop_of faults.OutOfRange = Kind OutOfRange

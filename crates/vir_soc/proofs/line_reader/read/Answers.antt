@@ -4,7 +4,7 @@ use Rattle.std.proofs.lemmas.Result.{err_from_is_err_and}
 use Rattle.std.proofs.lemmas.List.{take_all, length-drop}
 use Rattle.vir_soc.specs.declared.fault.SocError.{SocError}
 use Rattle.vir_soc.specs.declared.fault.SocError.TheVariants as errors
-use Rattle.vir_soc.specs.Reader.Answers.{Fails}
+use Rattle.vir_soc.specs.Reader.Answers.{Fails, fault_in}
 use Rattle.vir_profile.specs.SocFiles.{is_line_feed}
 use Rattle.vir_soc.specs.Checks.{◌>>=◌}
 use Rattle.vir_soc.specs.Reader.Pieces.{Progress, reads, end_line}
@@ -15,7 +15,7 @@ use Rattle.vir_soc.proofs.line_reader.read.Invariants.{SoFar}
 use Rattle.vir_soc.proofs.line_reader.read.Goals as goal
 
 -- the fault of the line that ends
-fails_now : (first now : Progress) (piece rest end : List ℕ) (e : SocError) → reads first piece ≡ reads now rest → position_or_len is_line_feed rest < length rest → end ≡ before_first is_line_feed rest → Fails e (end_line now end) → Fails e (reads first piece)
+fails_now : (first now : Progress) (piece rest end : List ℕ) (e : SocError) → reads first piece ≡ reads now rest → position_or_len is_line_feed rest < length rest → end ≡ before_first is_line_feed rest → Fails (fault_in e) (end_line now end) → Fails (fault_in e) (reads first piece)
 fails_now first now piece rest end (errors.Fault f) s h b is = s ∙ reads_end now rest h ∙ ap (λ r. r >>= λ q. reads q (after_first is_line_feed rest)) (ap (end_line now) (sym b) ∙ is)
 fails_now first now piece rest end errors.Memory s h b is = tt
 

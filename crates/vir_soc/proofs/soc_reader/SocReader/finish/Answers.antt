@@ -1,7 +1,7 @@
 use Rattle.std.proofs.Common.{sym, ◌∙◌, ap, Result, subst}
 use Rattle.vir_soc.specs.Reader.Stands.{state_of}
 use Rattle.vir_soc.specs.declared.fault.SocFault.{SocFault}
-use Rattle.vir_soc.specs.Reader.Answers.{Answers}
+use Rattle.vir_soc.specs.Reader.Answers.{Gives, fault_in}
 use Rattle.vir_profile.specs.SocFiles.{File}
 use Rattle.vir_soc.specs.Reader.Views.{reading_of}
 use Rattle.vir_soc.proofs.StandLemmas.{closes, refuses}
@@ -14,5 +14,5 @@ pub returns-clause-file : goal.returns-clause-file
 returns-clause-file c = λ bytes s.
     let e = sym c.self.view_is ∙ ap (state_of c.self.inside.reader c.self.inside.size) c.in-None.is in
     let k = closes c.args.self bytes s (reading_of c.self.inside.reader c.self.inside.size) e in
-    let P : Result File SocFault → Type 0 = λ x. Answers (λ file. file) c.close.result x in
+    let P : Result File SocFault → Type 0 = λ x. Gives fault_in (λ file. file) c.close.result x in
     subst P (sym k) c.close.ensures
