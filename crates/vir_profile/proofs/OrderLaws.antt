@@ -13,7 +13,7 @@ use Rattle.vir_altset.proofs.SizeLaws.{len-empty, len-remove, len_of_member, len
 use Rattle.vir_profile.specs.declared.refused.AddFault.{AddFault}
 use Rattle.vir_profile.specs.declared.refused.AddFault.TheVariants.{OutOfRange, Repeated, Short}
 use Rattle.vir_profile.specs.Orders.{times, IsListing, puts_before}
-use Rattle.vir_profile.specs.Add.{member_fault_after, fault_where, or_else, order_fault}
+use Rattle.vir_profile.specs.OrderFaults.{member_fault_after, fault_where, or_else, order_fault}
 
 -- whether x is a member of the list
 abbrev pub met : ℕ → List ℕ → Bool

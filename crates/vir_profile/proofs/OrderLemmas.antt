@@ -8,7 +8,7 @@ use Rattle.std.specs.FinSet.{nat_cmp-IsAntisymmetric}
 use Rattle.std.specs.Ordering.{nat_cmp}
 use Rattle.std.specs.Cmp.{nat_cmp_total}
 use Rattle.vir_profile.specs.declared.refused.AddFault.TheVariants.{OutOfRange, Repeated, Short}
-use Rattle.vir_profile.specs.Add.{member_fault_after, fault_where}
+use Rattle.vir_profile.specs.OrderFaults.{member_fault_after, fault_where}
 
 ranged : (m x : ℕ) → 1 ≤ x → x ≤ m → (nat_le 1 x && nat_le x m) ≡ true
 ranged m x a b = grind (arith, nat_tests)

@@ -7,8 +7,8 @@ use Rattle.std.specs.List.{filter}
 use Rattle.vir_altset.specs.Sets.{Set, all, IsPart}
 use Rattle.vir_profile.specs.declared.ballot.Entry.{Entry}
 use Rattle.vir_profile.specs.Orders.{IsListing, puts_before}
-use Rattle.vir_profile.specs.Profiles.{Votes, IsProfileOn, restricted_line, restrict, pairwise_weight}
-use Rattle.vir_profile.specs.Add.{IsProfile, order_fault}
+use Rattle.vir_profile.specs.Profiles.{Votes, IsProfileOn, restricted_line, restrict, pairwise_weight, IsProfile}
+use Rattle.vir_profile.specs.OrderFaults.{order_fault}
 use Rattle.vir_profile.proofs.OrderLaws.{listing_of_accepted, listing_of_part, listed_member, filter_whole, puts_before-filter}
 
 -- a profile on a set, restricted to a part, is a profile on the part

@@ -1,50 +1,14 @@
 -- Which lines a profile takes: the first fault of a line, in the order in which faults are tried.
-use Rattle.std.specs.Prelude.{◌≡◌, ℕ, ◌+◌, ◌-◌, ◌^◌, ◌≤◌, ◌&&◌, Bool, List, [], ◌∷◌, ◌++◌, length, All, Option, Some, None, if◌then◌else◌, nat_le, nat_lt, nat_eq}
-use Rattle.std.specs.List.{list_any}
-use Rattle.vir_altset.specs.Sets.{limit}
-use Rattle.vir_profile.specs.declared.refused.AddFault.{AddFault}
-use Rattle.vir_profile.specs.declared.refused.AddFault.TheVariants.{OutOfRange, Repeated, Short, TooManyOrders, TooManyVoters}
+use Rattle.std.specs.Prelude.{◌+◌, length, Option, nat_le, nat_lt}
 use Rattle.vir_profile.specs.declared.ballot.Entry.{Entry}
-use Rattle.vir_profile.specs.Profiles.{Votes, total_weight}
-
--- the greatest number of lines
-abbrev pub lines_limit : ℕ
-lines_limit = 1000000
-
--- the greatest sum of weights
-abbrev pub voters_limit : ℕ
-voters_limit = 2 ^ 64 - 1
-
--- the fault of the first member that offends, where these members stand before it
-abbrev pub member_fault_after : ℕ → List ℕ → List ℕ → Option AddFault
-member_fault_after m before [] = None
-member_fault_after m before (x ∷ rest) =
-    if nat_le 1 x && nat_le x m then (if list_any (λ y. nat_eq y x) before then Some Repeated else member_fault_after m (before ++ x ∷ []) rest)
-    else Some OutOfRange
-
--- the fault, where the test is met
-abbrev pub fault_where : Bool → AddFault → Option AddFault
-fault_where test fault = if test then Some fault else None
-
--- the first of two faults
-abbrev pub or_else : Option AddFault → Option AddFault → Option AddFault
-or_else (Some fault) next = Some fault
-or_else None next = next
-
--- the first fault of an order of the alternatives from 1 to m
-abbrev pub order_fault : ℕ → List ℕ → Option AddFault
-order_fault m order = or_else (member_fault_after m [] order) (fault_where (nat_lt (length order) m) Short)
+use Rattle.vir_profile.specs.declared.profile.TheConstants.{LINES_LIMIT}
+use Rattle.vir_profile.specs.declared.refused.AddFault.{AddFault}
+use Rattle.vir_profile.specs.declared.refused.AddFault.TheVariants.{TooManyOrders, TooManyVoters}
+use Rattle.vir_profile.specs.OrderFaults.{fault_where, or_else, order_fault}
+use Rattle.vir_profile.specs.Profiles.{Votes, total_weight, voters_limit}
 
 -- the first fault of a further line, want of memory aside
 abbrev pub add_fault : Votes → Entry → Option AddFault
 add_fault votes line =
     or_else (order_fault votes.alternatives line.order)
-    (or_else (fault_where (nat_le lines_limit (length votes.lines)) TooManyOrders) (fault_where (nat_lt voters_limit (total_weight votes.lines + line.weight)) TooManyVoters))
-
--- What holds of each profile that the code holds.
-pub record IsProfile (votes : Votes) : Type 0 where
-  pub some : 1 ≤ votes.alternatives
-  pub few : votes.alternatives ≤ limit
-  pub orders : All (λ line. order_fault votes.alternatives line.order ≡ None) votes.lines
-  pub lines : length votes.lines ≤ lines_limit
-  pub weights : total_weight votes.lines ≤ voters_limit
+    (or_else (fault_where (nat_le LINES_LIMIT (length votes.lines)) TooManyOrders) (fault_where (nat_lt voters_limit (total_weight votes.lines + line.weight)) TooManyVoters))

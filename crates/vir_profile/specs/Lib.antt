@@ -1,5 +1,6 @@
 pub mod Members
 pub mod Orders
+pub mod OrderFaults
 pub mod Profiles
 pub mod Winners
 pub mod Add

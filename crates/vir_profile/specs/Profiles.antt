@@ -1,8 +1,10 @@
--- Profiles: lists of lines, each a weight and an order. Nothing here limits their size.
-use Rattle.std.specs.Prelude.{ℕ, Bool, List, All, filter, map, sum_by, if◌then◌else◌}
+-- Profiles: lists of lines, each a weight and an order. Only `IsProfile` limits their size.
+use Rattle.std.specs.Prelude.{◌≡◌, ℕ, ◌-◌, ◌^◌, ◌≤◌, Bool, List, All, None, filter, length, map, sum_by, if◌then◌else◌}
 use Rattle.std.specs.FinSet as set
-use Rattle.vir_altset.specs.Sets.{Set}
+use Rattle.vir_altset.specs.Sets.{Set, limit}
 use Rattle.vir_profile.specs.declared.ballot.Entry.{Entry}
+use Rattle.vir_profile.specs.declared.profile.TheConstants.{LINES_LIMIT}
+use Rattle.vir_profile.specs.OrderFaults.{order_fault}
 use Rattle.vir_profile.specs.Orders.{IsListing, puts_before, begins_with}
 
 -- a profile as the code holds it: on the alternatives from 1 to a number, with these lines
@@ -26,6 +28,10 @@ restrict d lines = map (restricted_line d) lines
 abbrev pub total_weight : List Entry → ℕ
 total_weight lines = sum_by (λ line. line.weight) lines
 
+-- the greatest sum of weights
+abbrev pub voters_limit : ℕ
+voters_limit = 2 ^ 64 - 1
+
 -- the sum of the weights of the lines whose order passes a test
 abbrev pub weight_where : (List ℕ → Bool) → List Entry → ℕ
 weight_where test lines = sum_by (λ line. if test line.order then line.weight else 0) lines
@@ -37,3 +43,11 @@ pairwise_weight lines x y = weight_where (puts_before x y) lines
 -- how many voters put x first
 abbrev pub first_weight : List Entry → ℕ → ℕ
 first_weight lines x = weight_where (begins_with x) lines
+
+-- What holds of each profile that the code holds.
+pub record IsProfile (votes : Votes) : Type 0 where
+  pub some : 1 ≤ votes.alternatives
+  pub few : votes.alternatives ≤ limit
+  pub orders : All (λ line. order_fault votes.alternatives line.order ≡ None) votes.lines
+  pub lines : length votes.lines ≤ LINES_LIMIT
+  pub weights : total_weight votes.lines ≤ voters_limit

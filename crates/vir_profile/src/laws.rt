@@ -4,9 +4,9 @@ ghost use Rattle.std.specs.FinSet as set;
 ghost use Rattle.vir_altset.specs.Sets.{Set, all, IsPart};
 ghost use Rattle.vir_profile.specs.declared.ballot.Entry.{Entry};
 ghost use Rattle.vir_profile.specs.Orders.{IsListing};
-ghost use Rattle.vir_profile.specs.Profiles.{Votes, IsProfileOn, restrict, pairwise_weight};
+ghost use Rattle.vir_profile.specs.Profiles.{Votes, IsProfileOn, restrict, pairwise_weight, IsProfile};
 ghost use Rattle.vir_profile.specs.Winners.{IsCondorcetWinner};
-ghost use Rattle.vir_profile.specs.Add.{order_fault, IsProfile};
+ghost use Rattle.vir_profile.specs.OrderFaults.{order_fault};
 
 /// The orders that a profile of so many alternatives takes are those that list each of them once.
 pub fn accepted_orders()

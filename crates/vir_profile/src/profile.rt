@@ -1,7 +1,8 @@
 ghost use Rattle.std.specs.Prelude.{◌≡◌, None, ◌≤◌, ◌<◌, [], ◌∷◌, ◌++◌, length, slice_get, IfErr, OnOk, OnErr, unwrap_or};
 ghost use Rattle.std.specs.Option.{option_copied};
-ghost use Rattle.vir_profile.specs.Profiles.{total_weight};
-ghost use Rattle.vir_profile.specs.Add.{add_fault, order_fault, IsProfile};
+ghost use Rattle.vir_profile.specs.Profiles.{total_weight, IsProfile};
+ghost use Rattle.vir_profile.specs.Add.{add_fault};
+ghost use Rattle.vir_profile.specs.OrderFaults.{order_fault};
 
 use crate::ballot::{Ballot, Entry};
 use crate::refused::{AddFault, Refused};
@@ -22,11 +23,9 @@ pub struct Profile {
 
 impl Model for Profile {
     ghost use Rattle.std.specs.Prelude.{◌≡◌};
-    ghost use Rattle.vir_profile.specs.Profiles.{Votes, total_weight};
+    ghost use Rattle.vir_profile.specs.Profiles.{Votes, total_weight, IsProfile};
 
     ghost Value = { Votes };
-
-    ghost use Rattle.vir_profile.specs.Add.{IsProfile};
 
     ghost view = { λ p. record { alternatives = p.alternatives; lines = p.lines.items } };
 

@@ -6,8 +6,7 @@ use Rattle.std.specs.Option.{IfSome, ok_or, option_map, unwrap_or}
 use Rattle.std.proofs.lemmas.Bool.Decides.{nat_tests}
 use Rattle.std.proofs.lemmas.List.Elements.{All-append, All-nil, All-cons}
 use Rattle.vir_altset.specs.Sets.{limit}
-use Rattle.vir_profile.specs.Add.{voters_limit}
-use Rattle.vir_profile.specs.Profiles.{Votes, total_weight}
+use Rattle.vir_profile.specs.Profiles.{voters_limit, Votes, total_weight}
 use Rattle.vir_profile.specs.SocFiles.{File}
 use Rattle.vir_soc.specs.declared.key.Key.{Key}
 use Rattle.vir_soc.specs.declared.key.Key.TheVariants.{DataType, Alternatives, Voters, Orders, NameOf, Other}

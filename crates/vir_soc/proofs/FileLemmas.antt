@@ -12,7 +12,8 @@ use Rattle.vir_soc.specs.Checks.{◌>>=◌, at_line, refuse}
 use Rattle.vir_soc.specs.Lines.{lines}
 use Rattle.vir_soc.specs.Names.{names_up_to}
 use Rattle.vir_soc.specs.Said.{Said}
-use Rattle.vir_soc.specs.Soc.{agrees, ended_said, file_of, said_by, size_limit, soc, too_long, whole}
+use Rattle.vir_soc.specs.Soc.{agrees, ended_said, file_of, said_by, soc, too_long, whole}
+use Rattle.vir_soc.specs.declared.soc_reader.TheConstants.{SIZE_LIMIT}
 use Rattle.vir_soc.proofs.ChainLemmas.{bound, passed, went_well, was_some}
 
 -- what some lines say, where the file is this one
@@ -51,9 +52,9 @@ too_long-err (Err e) line file h = cc
 -- its lines have no fault, and make it
 pub soc-ok : (bytes : List ℕ) (file : File) → soc bytes ≡ Ok file → (said : Said) × (said_by (lines bytes) ≡ Ok said) × Makes said file
 soc-ok bytes file h =
-    elim (nat_le (length bytes) size_limit) as (λ b. cond b (file_of (lines bytes)) (too_long (take size_limit bytes)) ≡ Ok file → (said : Said) × (said_by (lines bytes) ≡ Ok said) × Makes said file) [
+    elim (nat_le (length bytes) SIZE_LIMIT) as (λ b. cond b (file_of (lines bytes)) (too_long (take SIZE_LIMIT bytes)) ≡ Ok file → (said : Said) × (said_by (lines bytes) ≡ Ok said) × Makes said file) [
       | true ↦ λ e.
           let a = bound (said_by (lines bytes)) (λ said. whole said (length (lines bytes))) file e in
           (a.0, a.1, whole-ok a.0 (length (lines bytes)) file a.2)
-      | false ↦ λ e. absurd (too_long-err (ended_said (take size_limit bytes)) (length (lines (take size_limit bytes))) file e)
+      | false ↦ λ e. absurd (too_long-err (ended_said (take SIZE_LIMIT bytes)) (length (lines (take SIZE_LIMIT bytes))) file e)
     ] h

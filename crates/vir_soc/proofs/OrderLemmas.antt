@@ -6,7 +6,7 @@ use Rattle.std.specs.FinSet.{nat_cmp-IsAntisymmetric}
 use Rattle.std.specs.Ordering.{nat_cmp}
 use Rattle.std.specs.Cmp.{nat_cmp_total}
 use Rattle.vir_altset.specs.Sets.{Set}
-use Rattle.vir_profile.specs.Add.{member_fault_after}
+use Rattle.vir_profile.specs.OrderFaults.{member_fault_after}
 use Rattle.vir_profile.specs.declared.refused.AddFault.{AddFault}
 use Rattle.vir_profile.specs.declared.refused.AddFault.TheVariants as faults
 use Rattle.vir_soc.specs.declared.kind.SocKind.{SocKind}

@@ -15,7 +15,8 @@ use Rattle.vir_soc.specs.Lines.{last_line, lines}
 use Rattle.vir_soc.specs.Names.{names_up_to}
 use Rattle.vir_soc.specs.Reader.Pieces.{Progress, Reading, after_text, after_texts, closed, ended, feeds, kinds_from, reads, unended}
 use Rattle.vir_soc.specs.Said.{Said}
-use Rattle.vir_soc.specs.Soc.{agrees, settled, settled_said, size_limit, soc, whole}
+use Rattle.vir_soc.specs.Soc.{agrees, settled, settled_said, soc, whole}
+use Rattle.vir_soc.specs.declared.soc_reader.TheConstants.{SIZE_LIMIT}
 use Rattle.vir_soc.specs.Reader.Stands.{standing}
 use Rattle.vir_soc.proofs.CutLemmas.{length-lines}
 use Rattle.vir_soc.proofs.FeedLemmas.{standing_append}
@@ -99,8 +100,8 @@ reads_on p q bytes h = of (after_texts p.said p.line (ended p.begun bytes)) h wh
 
 feeds_late : (r : Reading) (piece : List ℕ) (f : SocFault) → feeds r piece ≡ Err f → r.progress.line ≤ f.line
 feeds_late r piece f h =
-    let start = take (size_limit - r.size) piece in
-    let over = refuse (nat_lt size_limit (r.size + length piece)) kinds.FileTooLong in
+    let start = take (SIZE_LIMIT - r.size) piece in
+    let over = refuse (nat_lt SIZE_LIMIT (r.size + length piece)) kinds.FileTooLong in
     let put : Progress → Result Reading SocFault = λ p. Ok (record { progress = p; size = r.size + length piece }) in
     elim (stopped (reads r.progress start) (λ p. at_line p.line over >>= λ _. put p) f h) [
       | first e ↦ reads_late r.progress start f e

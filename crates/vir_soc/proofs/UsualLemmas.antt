@@ -8,10 +8,10 @@ use Rattle.std.proofs.lemmas.List.Elements.{All-cons}
 use Rattle.std.proofs.lemmas.List.Folds.{list_any-append}
 use Rattle.std.proofs.lemmas.List.Splits.{slice_split_at, slice_split_none}
 use Rattle.vir_altset.specs.Sets.{limit}
-use Rattle.vir_profile.specs.Add.{member_fault_after, order_fault}
+use Rattle.vir_profile.specs.OrderFaults.{member_fault_after, order_fault}
 use Rattle.vir_profile.specs.declared.ballot.Entry.{Entry}
 use Rattle.vir_soc.specs.Lines.{trim}
-use Rattle.vir_soc.specs.Metadata.{is_colon}
+use Rattle.vir_soc.specs.LineKinds.{is_colon}
 use Rattle.vir_soc.specs.Numbers.{number}
 use Rattle.vir_soc.specs.Votes.{alternative, is_brace, is_comma, order_after, with_order, with_votes}
 use Rattle.vir_soc.proofs.CleanLemmas.{IsClean-decimal, after_colon, before_colon, colon_inside, trim-clean, trim-spaced}

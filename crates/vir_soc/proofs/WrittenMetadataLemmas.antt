@@ -5,7 +5,7 @@ use Rattle.std.proofs.lemmas.Bool.{le-leb, le-ltb}
 use Rattle.std.proofs.lemmas.Bool.Decides.{nat_tests}
 use Rattle.std.proofs.lemmas.List.Folds.{list_any-append}
 use Rattle.vir_altset.specs.Sets.{limit}
-use Rattle.vir_profile.specs.Add.{voters_limit}
+use Rattle.vir_profile.specs.Profiles.{voters_limit}
 use Rattle.vir_profile.specs.SocFiles.{AreNamesAbove, IsNameText, is_blank, is_line_feed}
 use Rattle.vir_profile.specs.declared.soc_file.Name.{Name}
 use Rattle.vir_soc.specs.declared.key.Key.TheVariants.{DataType, Alternatives, Voters, Orders, NameOf}

@@ -3,7 +3,7 @@ use Rattle.std.specs.Prelude.{ℕ, Bool, false, not, List, Option, Some, None, R
 use Rattle.std.specs.Option.{ok_or, option_map, unwrap_or}
 use Rattle.std.specs.Str.{bytes_eq, str_to_ascii_lowercase}
 use Rattle.vir_altset.specs.Sets.{limit}
-use Rattle.vir_profile.specs.Add.{voters_limit}
+use Rattle.vir_profile.specs.Profiles.{voters_limit}
 use Rattle.vir_soc.specs.declared.key.Key.{Key}
 use Rattle.vir_soc.specs.declared.key.Key.TheVariants.{DataType, Alternatives, Voters, Orders, NameOf, Other}
 use Rattle.vir_soc.specs.declared.kind.SocKind.{SocKind}

@@ -6,6 +6,7 @@ use Rattle.vir_profile.specs.SocFiles.{File}
 use Rattle.vir_soc.specs.declared.kind.SocKind.{SocKind}
 use Rattle.vir_soc.specs.declared.kind.SocKind.TheVariants.{NoAlternativeCount, VotersDiffer, OrdersDiffer, FileTooLong}
 use Rattle.vir_soc.specs.declared.fault.SocFault.{SocFault}
+use Rattle.vir_soc.specs.declared.soc_reader.TheConstants.{SIZE_LIMIT}
 use Rattle.vir_soc.specs.declared.told.Told.{Told}
 use Rattle.vir_soc.specs.Checks.{◌>>=◌, refuse, at_line, fault_of}
 use Rattle.vir_soc.specs.Lines.{lines, ended_lines}
@@ -51,10 +52,6 @@ file_of texts = do
   said ← said_by texts
   whole said (length texts)
 
--- the most bytes that a file may have
-abbrev pub size_limit : ℕ
-size_limit = 268435456
-
 -- what the lines say that a line feed ends, or their first fault
 abbrev pub ended_said : List ℕ → Result Said SocFault
 ended_said bytes = said_by (ended_lines bytes)
@@ -67,11 +64,11 @@ too_long bytes = do
 
 -- the file that the bytes are, or its first fault
 abbrev pub soc : List ℕ → Result File SocFault
-soc bytes = if nat_le (length bytes) size_limit then file_of (lines bytes) else too_long (take size_limit bytes)
+soc bytes = if nat_le (length bytes) SIZE_LIMIT then file_of (lines bytes) else too_long (take SIZE_LIMIT bytes)
 
 -- what the ended lines of the bytes say, or the first fault that the bytes settle, however they go on
 abbrev pub settled_said : List ℕ → Result Said SocFault
-settled_said bytes = if nat_le (length bytes) size_limit then ended_said bytes else too_long (take size_limit bytes)
+settled_said bytes = if nat_le (length bytes) SIZE_LIMIT then ended_said bytes else too_long (take SIZE_LIMIT bytes)
 
 -- the first fault that the bytes settle, however they go on
 abbrev pub settled : List ℕ → Option SocFault

@@ -3,7 +3,8 @@ ghost use Rattle.vir_profile.specs.SocFiles.{File, is_line_feed, name_of};
 ghost use Rattle.vir_soc.specs.declared.fault.SocFault.{SocFault};
 ghost use Rattle.vir_soc.specs.declared.kind.SocKind.TheVariants.{VotersDiffer, OrdersDiffer};
 ghost use Rattle.vir_soc.specs.Accepted.{IsTrueOf, as_vote, last_name, metadata_lines, vote_lines, vote_of};
-ghost use Rattle.vir_soc.specs.Soc.{settled, size_limit, soc};
+ghost use Rattle.vir_soc.specs.declared.soc_reader.TheConstants.{SIZE_LIMIT};
+ghost use Rattle.vir_soc.specs.Soc.{settled, soc};
 
 /// A fault that some bytes settle is that of each file that begins with them.
 pub fn fault_stays()
@@ -39,7 +40,7 @@ pub fn metadata_is_true()
 pub fn no_line_before_has_a_fault()
     ensures { (front back : List ℕ) (fault : SocFault)
         → soc (front ++ back) ≡ Err fault
-        → length front ≤ size_limit → count_by is_line_feed front < fault.line
+        → length front ≤ SIZE_LIMIT → count_by is_line_feed front < fault.line
         → settled front ≡ None }
 {}
 

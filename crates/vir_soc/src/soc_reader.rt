@@ -2,7 +2,7 @@ ghost use Rattle.std.specs.Prelude.{◌≡◌, ◌+◌, ◌++◌, ◌≤◌, [],
 ghost use Rattle.vir_soc.specs.declared.fault.SocError.{SocError};
 ghost use Rattle.vir_soc.specs.Reader.Answers.{Follows, Gives, Shows, fault_in};
 ghost use Rattle.vir_soc.specs.Reader.Pieces.{closed, feeds};
-ghost use Rattle.vir_soc.specs.Soc.{agrees, settled, size_limit, soc, whole};
+ghost use Rattle.vir_soc.specs.Soc.{agrees, settled, soc, whole};
 ghost use Rattle.vir_soc.specs.Reader.Stands.{stands};
 ghost use Rattle.vir_soc.specs.Reader.Views.{reading_of, said_of};
 
@@ -22,11 +22,11 @@ pub const SIZE_LIMIT: u64 = 268_435_456;
 
 /// Takes a further piece, and gives the new size.
 fn take(alloc: Global, reader: &mut LineReader, size: u64, piece: &[u8]) -> Result<u64, SocError>
-    requires size { size ≤ size_limit }
+    requires size { size ≤ SIZE_LIMIT }
     requires line { reader.old.line ≤ size + 1 }
     ensures exact { Gives fault_in (λ new. reading_of reader.new new) result
         (feeds (reading_of reader.old size) piece.now) }
-    ensures size { IfOk result (λ new. (new ≤ size_limit) × (reader.new.line ≤ new + 1)) }
+    ensures size { IfOk result (λ new. (new ≤ SIZE_LIMIT) × (reader.new.line ≤ new + 1)) }
 {
     let room = SIZE_LIMIT - size;
     if piece.len() as u64 <= room {
@@ -112,15 +112,15 @@ pub struct SocReader {
 impl Model for SocReader {
     ghost use Rattle.std.specs.Prelude.{◌≡◌, ◌+◌, ◌≤◌, Result, None};
     ghost use Rattle.vir_soc.specs.declared.fault.SocError.{SocError};
+    ghost use Rattle.vir_soc.specs.declared.soc_reader.TheConstants.{SIZE_LIMIT};
     ghost use Rattle.vir_soc.specs.Reader.Pieces.{Reading};
-    ghost use Rattle.vir_soc.specs.Soc.{size_limit};
     ghost use Rattle.vir_soc.specs.Reader.Stands.{state_of};
 
     ghost Value = { Result Reading SocError };
 
     ghost view = { λ a. state_of a.reader a.size a.stopped };
 
-    ghost invariant = { λ a. a.stopped ≡ None → (a.size ≤ size_limit) × (a.reader.line ≤ a.size + 1) };
+    ghost invariant = { λ a. a.stopped ≡ None → (a.size ≤ SIZE_LIMIT) × (a.reader.line ≤ a.size + 1) };
 }
 
 impl SocReader {

@@ -2,7 +2,7 @@
 ghost use Rattle.std.specs.Prelude.{◌≡◌, ◌≤◌, ◌<◌, ◌^◌, ◌++◌, ◌∷◌, ◌⊎◌, [], List, Ok, None, false, decimal, length, IfSome};
 ghost use Rattle.std.specs.List.{list_any, slice_split};
 ghost use Rattle.vir_altset.specs.Sets.{limit};
-ghost use Rattle.vir_profile.specs.Add.{order_fault};
+ghost use Rattle.vir_profile.specs.OrderFaults.{order_fault};
 ghost use Rattle.vir_profile.specs.declared.ballot.Entry.{Entry};
 ghost use Rattle.vir_soc.specs.Votes.{is_brace, is_comma, order_after, with_order, with_votes};
 

@@ -2,7 +2,7 @@ ghost use Rattle.std.specs.Prelude.{◌≡◌, ◌≤◌, [], None, Ok, OnOk, If
 ghost use Rattle.std.specs.Bool.{MatchBool};
 ghost use Rattle.std.specs.List.{list_any, slice_split};
 ghost use Rattle.vir_altset.specs.Sets.{limit};
-ghost use Rattle.vir_profile.specs.Add.{member_fault_after};
+ghost use Rattle.vir_profile.specs.OrderFaults.{member_fault_after};
 ghost use Rattle.vir_soc.specs.Reader.Answers.{Gives, kind_in};
 ghost use Rattle.vir_soc.specs.Reader.Steps.{stop_of};
 ghost use Rattle.vir_soc.specs.Votes.{alternative, is_brace, is_comma, order_after, with_order, with_votes};
@@ -127,7 +127,7 @@ pub fn with_votes(alloc: Global, profile: &mut Profile, text: &[u8]) -> Result<(
 
 /// Takes a line of votes in whatever shape.
 fn with_any_votes(alloc: Global, profile: &mut Profile, text: &[u8]) -> Result<(), Stop>
-    ensures exact { Gives (λ _. profile.new.lines) result
+    ensures exact { Gives kind_in (λ _. profile.new.lines) result
         (with_votes profile.old.alternatives profile.old.lines text.now) }
     ensures alternatives { OnOk result (profile.new.alternatives ≡ profile.old.alternatives) }
 {

@@ -5,7 +5,7 @@ use Rattle.vir_outside.specs.Shelf.{Files, Lacks, TakesAtMost, told_content}
 use Rattle.vir_plain_rule.specs.declared.refusal.RuleRefusal.{RuleRefusal}
 use Rattle.vir_plain_rule.specs.declared.refusal.RuleRefusal.TheVariants.{NotPlain}
 use Rattle.vir_plain_rule.specs.PlainRule.{plain_rule}
-use Rattle.vir_soc.specs.Soc.{size_limit}
+use Rattle.vir_soc.specs.declared.soc_reader.TheConstants.{SIZE_LIMIT}
 use Rattle.vir_term.specs.Tree.{Tree}
 use Rattle.virage.specs.declared.file_stop.FileStop.{FileStop}
 use Rattle.virage.specs.declared.file_stop.FileStop.TheVariants.{Fault, Refused, Memory}
@@ -23,7 +23,7 @@ pub record AskedFile : Type 0 where
 
 -- the files that a command comes to, one after another, as long as none stops it
 abbrev pub files_of : Command → List AskedFile
-files_of (count rule profile) = record { name = rule; limit = RULE_LIMIT } ∷ record { name = profile; limit = size_limit } ∷ []
+files_of (count rule profile) = record { name = rule; limit = RULE_LIMIT } ∷ record { name = profile; limit = SIZE_LIMIT } ∷ []
 
 -- the files that the words ask for; none where they are no command
 abbrev pub files_of_any : Option Command → List AskedFile

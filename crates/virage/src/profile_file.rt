@@ -3,7 +3,7 @@ ghost use Rattle.std.specs.Prelude.{◌≡◌, ◌⊎◌, ◌≤◌, ◌+◌, �
 ghost use Rattle.std.specs.Io.KnownBytes.{Consumes};
 ghost use Rattle.vir_outside.specs.Faults.{Rose};
 ghost use Rattle.vir_outside.specs.Shelf.{TakesAtMost};
-ghost use Rattle.vir_soc.specs.Soc.{soc, size_limit};
+ghost use Rattle.vir_soc.specs.Soc.{soc};
 ghost use Rattle.vir_soc.specs.Reader.Stands.{stands};
 ghost use Rattle.virage.specs.Feeding.{StandsForRest, StopsRest, file_stop_of};
 ghost use Rattle.virage.specs.Files.{Reads};
@@ -33,10 +33,10 @@ fn file_stop_of(error: SocError) -> FileStop<SocFault>
 // How many bytes are asked for where so many are taken: at most a piece, and all in all at most one
 // more than the limit.
 fn room_after(taken: usize) -> usize
-    requires { taken ≤ size_limit }
+    requires { taken ≤ SIZE_LIMIT }
     ensures some { 1 ≤ result }
     ensures piece { result ≤ PIECE }
-    ensures within { taken + result ≤ size_limit + 1 }
+    ensures within { taken + result ≤ SIZE_LIMIT + 1 }
 {
     (SIZE_LIMIT - taken).min(PIECE - 1) + 1
 }
@@ -46,7 +46,7 @@ fn fed_reader<S: Shelf>(alloc: Global, shelf: &mut S) -> Result<SocReader, FileS
     requires { IsTrue (S.selected shelf.old) }
     ensures fed { IfOk result (λ reader. StandsForRest reader (S.rest shelf.old)) }
     ensures stops { IfErr result (StopsRest (S.rest shelf.old) (Rose (S.faults shelf.old) (S.faults shelf.new))) }
-    ensures taken { (bytes : List ℕ) × (length bytes ≤ size_limit + 1)
+    ensures taken { (bytes : List ℕ) × (length bytes ≤ SIZE_LIMIT + 1)
         × Consumes (S.rest shelf.old) (S.rest shelf.new) bytes }
     ensures selected { IsTrue (S.selected shelf.new) }
     ensures files { S.files shelf.new ≡ S.files shelf.old }
@@ -88,7 +88,7 @@ fn selected_profile<S: Shelf>(alloc: Global, shelf: &mut S) -> Result<SocFile, F
     requires { IsTrue (S.selected shelf.old) }
     ensures file { IfOk result (λ file. IfSome (S.rest shelf.old) (λ rest. soc rest ≡ Ok file)) }
     ensures stops { IfErr result (StopsRest (S.rest shelf.old) (Rose (S.faults shelf.old) (S.faults shelf.new))) }
-    ensures taken { (bytes : List ℕ) × (length bytes ≤ size_limit + 1)
+    ensures taken { (bytes : List ℕ) × (length bytes ≤ SIZE_LIMIT + 1)
         × Consumes (S.rest shelf.old) (S.rest shelf.new) bytes }
     ensures selected { IsTrue (S.selected shelf.new) }
     ensures files { S.files shelf.new ≡ S.files shelf.old }
@@ -107,7 +107,7 @@ pub fn profile_file<S: Shelf>(
 ) -> Result<SocFile, FileStop<SocFault>>
     ensures reads { Reads soc (λ file. file) (S.files shelf.old) name.now (Rose (S.faults shelf.old) (S.faults shelf.new)) result }
     ensures selected { IsErrOf result FileStop.Fault ⊎ IsTrue (S.selected shelf.new) }
-    ensures taken { TakesAtMost (S.files shelf.old) name.now (S.selected shelf.new) (S.rest shelf.new) (size_limit + 1) }
+    ensures taken { TakesAtMost (S.files shelf.old) name.now (S.selected shelf.new) (S.rest shelf.new) (SIZE_LIMIT + 1) }
     ensures files { S.files shelf.new ≡ S.files shelf.old }
     ensures later { S.faults shelf.old ≤ S.faults shelf.new }
 {

@@ -1,7 +1,7 @@
 use Rattle.std.proofs.Common.{◌≡◌, [], take, drop}
 use Rattle.std.specs.FinSet as set
 use Rattle.std.specs.Ordering.{nat_cmp}
-use Rattle.vir_profile.specs.Add.{member_fault_after}
+use Rattle.vir_profile.specs.OrderFaults.{member_fault_after}
 use Rattle.vir_profile.proofs.profile.judge_order.Given as goal
 
 abbrev pub invariant-loop-i : goal.invariant-loop-i

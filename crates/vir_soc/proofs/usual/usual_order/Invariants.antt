@@ -3,7 +3,7 @@ use Rattle.std.specs.FinSet as set
 use Rattle.std.specs.List.{list_any, slice_split}
 use Rattle.std.specs.Ordering.{nat_cmp}
 use Rattle.vir_altset.specs.Sets.{Set}
-use Rattle.vir_profile.specs.Add.{member_fault_after}
+use Rattle.vir_profile.specs.OrderFaults.{member_fault_after}
 use Rattle.vir_soc.specs.Votes.{order_after, is_brace, is_comma}
 use Rattle.vir_soc.proofs.usual.usual_order.Given as goal
 
