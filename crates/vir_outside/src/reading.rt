@@ -28,9 +28,9 @@ const PIECE: usize = 4096;
 
 /// The bytes of the file of this name, read to its end, where there are at most `limit`.
 ///
-/// Whatever it answers, at most one byte more than `limit` is taken from the file, and it is open
-/// which file is selected afterwards. `ReadStop::Memory` is want of memory, which can come at any
-/// file but one that is told to be missing.
+/// Whatever it answers, at most one byte more than `limit` is taken from the file. A file is selected
+/// afterwards, unless it answers `ReadStop::Fault`. `ReadStop::Memory` is want of memory, which can
+/// come at any file but one that is told to be missing.
 pub fn read_whole<S: Shelf>(
     alloc: Global,
     shelf: &mut S,
@@ -54,7 +54,7 @@ pub fn read_whole<S: Shelf>(
         ⊎ Rose (S.faults shelf.old) (S.faults shelf.new)
         ⊎ IsErrOf result ReadStop.Memory) }
 
-    // What the call leaves: the file is selected, unless it can't be read.
+    // What the call leaves.
     ensures selected { IsErrOf result ReadStop.Fault ⊎ IsTrue (S.selected shelf.new) }
     ensures taken { TakesAtMost (S.files shelf.old) name.now
         (S.selected shelf.new) (S.rest shelf.new) (limit + 1) }
@@ -63,6 +63,16 @@ pub fn read_whole<S: Shelf>(
 {
     shelf.select(name).map_err(|_| ReadStop::Fault)?;
     read_selected(alloc, shelf, limit)
+}
+
+// How many bytes are asked for where so many more are within the limit: one past it tells that there
+// are more.
+fn room_for(left: usize) -> usize
+    ensures some { 1 ≤ result }
+    ensures one_past { result ≤ left + 1 }
+    ensures piece { result ≤ PIECE }
+{
+    left.min(PIECE - 1) + 1
 }
 
 // The bytes that are left of the selected file, read to its end.
@@ -81,7 +91,7 @@ fn read_selected<S: Shelf>(alloc: Global, shelf: &mut S, limit: usize) -> Result
     let mut whole = Vec::new(alloc);
     loop {
         let mut piece = [0u8; PIECE];
-        let room = (limit - whole.len()).min(PIECE - 1) + 1;
+        let room = room_for(limit - whole.len());
         let Ok(count) = shelf.read(&mut piece[..room]) else {
             return Err(ReadStop::Fault);
         };
