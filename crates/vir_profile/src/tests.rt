@@ -1,82 +1,124 @@
-// Lines that a profile takes, and lines that it hands back; files with names.
-use crate::{ALTERNATIVES_IN_PLACE, AddFault, Ballot, Entry, NameText, Profile, SocFile, laws};
+// Lines that a profile takes, and lines that it hands back. Names are tested in the crates above.
+use crate::{ALTERNATIVES_IN_PLACE, AddFault, Ballot, Entry, Profile, Refused, laws};
 use std::alloc::{AllocError, Global};
+use std::process::Abort;
 
-fn line(alloc: Global, weight: u64, order: &[u16]) -> Result<Entry, AllocError> {
-    let order = Ballot::from_slice(alloc, order)?;
-    Ok(Entry { weight, order })
+// Adds a line of this weight and this order, and gives it back if it is refused.
+fn add(
+    alloc: Global,
+    profile: &mut Profile,
+    weight: u64,
+    order: &[u16],
+) -> Result<Option<Refused>, AllocError> {
+    let order = Ballot::of(Vec::from_slice(alloc, order)?);
+    Ok(profile.add(Entry { weight, order }).err())
 }
 
-#[test]
-fn lines_are_added_or_handed_back(rt: HostRuntime) -> Result<(), AllocError> {
-    let alloc = rt.alloc();
-    let mut profile = Profile::new(alloc, 3);
-    assert!(rt; profile.add(line(alloc, 4, &[1, 2, 3])?).is_ok());
-    assert!(rt; profile.add(line(alloc, u64::MAX - 4, &[3, 2, 1])?).is_ok());
-    let refused: [(u64, &[u16], AddFault); 9] = [
-        (1, &[1, 2], AddFault::Short),
-        (1, &[], AddFault::Short),
-        (1, &[0, 1, 2], AddFault::OutOfRange),
-        (1, &[1, 4, 2], AddFault::OutOfRange),
-        (1, &[1, 2, 2], AddFault::Repeated),
-        (1, &[1, 1, 4], AddFault::Repeated),
-        (1, &[4, 1, 1], AddFault::OutOfRange),
-        (1, &[1, 2, 3, 1], AddFault::Repeated),
-        (1, &[2, 1, 3], AddFault::TooManyVoters),
-    ];
-    for (weight, order, fault) in refused {
-        let Err(refused) = profile.add(line(alloc, weight, order)?) else {
-            panic!(rt; "added");
-        };
-        assert_eq!(rt; refused.fault, fault);
-        assert_eq!(rt; refused.entry.weight, weight);
-        assert_eq!(rt; refused.entry.order.len(), order.len());
-        for (i, x) in order.iter().enumerate() {
-            assert!(rt; i < refused.entry.order.len());
-            assert_eq!(rt; refused.entry.order.at(i), *x);
+fn is_order(ballot: &Ballot, order: &[u16]) -> bool {
+    for i in 0..ballot.len() {
+        if order.get(i) != Some(&ballot.at(i)) {
+            return false;
         }
     }
-    assert!(rt; profile.add(line(alloc, 0, &[2, 1, 3])?).is_ok());
-    assert_eq!(rt; profile.lines(), 3);
-    assert_eq!(rt; profile.entries().len(), 3);
-    assert_eq!(rt; profile.total(), u64::MAX);
-    assert_eq!(rt; profile.alternatives(), 3);
-    assert_eq!(rt; profile.line(0).map(|first| first.weight), Some(4));
-    assert!(rt; profile.line(3).is_none());
+    ballot.len() == order.len()
+}
+
+fn expect_refused(
+    rt: &impl Abort,
+    refused: Option<Refused>,
+    weight: u64,
+    order: &[u16],
+    fault: AddFault,
+) {
+    let Some(refused) = refused else {
+        panic!(rt; "{order:?} was added");
+    };
+    assert!(rt; refused.fault == fault, "{order:?}");
+    assert!(rt; refused.entry.weight == weight, "{order:?}");
+    assert!(rt; is_order(&refused.entry.order, order), "{order:?}");
+}
+
+// The lines of a profile of three alternatives: 2^64 - 1 voters in all.
+const TAKEN: &[(u64, &[u16])] = &[(4, &[1, 2, 3]), (u64::MAX - 4, &[3, 2, 1]), (0, &[2, 1, 3])];
+
+// Lines that it refuses, and the first fault of each.
+const REFUSED: &[(u64, &[u16], AddFault)] = &[
+    (1, &[1, 2], AddFault::Short),
+    (1, &[], AddFault::Short),
+    (1, &[0, 1, 2], AddFault::OutOfRange),
+    (1, &[1, 4, 2], AddFault::OutOfRange),
+    (1, &[1, 2, 2], AddFault::Repeated),
+    (1, &[1, 1, 4], AddFault::Repeated),
+    (1, &[4, 1, 1], AddFault::OutOfRange),
+    (1, &[1, 2, 3, 1], AddFault::Repeated),
+    (1, &[2, 1, 3], AddFault::TooManyVoters),
+];
+
+// A profile with these lines.
+fn profile_of(
+    rt: &impl Abort,
+    alloc: Global,
+    lines: &[(u64, &[u16])],
+) -> Result<Profile, AllocError> {
+    let mut profile = Profile::new(alloc, 3);
+    for (weight, order) in lines {
+        assert!(rt;
+            add(alloc, &mut profile, *weight, order)?.is_none(),
+            "{order:?}"
+        );
+    }
+    Ok(profile)
+}
+
+// A ballot of this order, pushed member by member into a room for so many.
+fn pushed(alloc: Global, room: usize, order: &[u16]) -> Result<Ballot, AllocError> {
+    let mut ballot = Ballot::with_room(alloc, room)?;
+    for x in order {
+        ballot.push(alloc, *x)?;
+    }
+    Ok(ballot)
+}
+
+// However a ballot of this order is made, it lists it.
+fn expect_listed(rt: &impl Abort, alloc: Global, order: &[u16]) -> Result<(), AllocError> {
+    assert!(rt; Ballot::from_slice(alloc, order)?.alternatives() == order);
+    assert!(rt; Ballot::of(Vec::from_slice(alloc, order)?).alternatives() == order);
+    assert!(rt; pushed(alloc, order.len(), order)?.alternatives() == order);
+    assert!(rt; pushed(alloc, 0, order)?.alternatives() == order);
     Ok(())
 }
+
+const ORDER: &[u16] = &[16, 15, 14, 13, 12, 11, 10, 9, 8, 7, 6, 5, 4, 3, 2, 1];
 
 // Orders that stand in the ballot itself, the longest of them among these, and longer ones.
 #[test]
 fn ballots_of_every_length_list_their_order(rt: HostRuntime) -> Result<(), AllocError> {
-    let alloc = rt.alloc();
-    let all: [u16; 16] = [16, 15, 14, 13, 12, 11, 10, 9, 8, 7, 6, 5, 4, 3, 2, 1];
-    for length in [0, 1, ALTERNATIVES_IN_PLACE, ALTERNATIVES_IN_PLACE + 1, 16] {
-        let order = &all[..length];
-        assert!(rt; Ballot::from_slice(alloc, order)?.alternatives() == order);
-        assert!(rt; Ballot::of(Vec::from_slice(alloc, order)?).alternatives() == order);
-        for room in [length, 0] {
-            let mut pushed = Ballot::with_room(alloc, room)?;
-            for x in order {
-                pushed.push(alloc, *x)?;
-            }
-            assert!(rt; pushed.alternatives() == order);
-        }
+    assert!(rt; ALTERNATIVES_IN_PLACE == 14);
+    for length in 0..ORDER.len() + 1 {
+        expect_listed(&rt, rt.alloc(), &ORDER[..length])?;
     }
     Ok(())
 }
 
 #[test]
-fn names_are_found_by_number(rt: HostRuntime) -> Result<(), AllocError> {
-    let alloc = rt.alloc();
-    let text = NameText::of(Vec::from_slice(alloc, b"Ruiz")?);
-    assert_eq!(rt; text.bytes(), b"Ruiz".as_slice());
-    let profile = Profile::new(alloc, 3);
-    let file = SocFile::of(profile, Vec::new(alloc));
-    assert_eq!(rt; file.profile().alternatives(), 3);
-    assert!(rt; file.names().is_empty());
-    for x in 0..4 {
-        assert!(rt; file.name(x).is_none());
+fn lines_are_added(rt: HostRuntime) -> Result<(), AllocError> {
+    let profile = profile_of(&rt, rt.alloc(), TAKEN)?;
+    assert!(rt; profile.lines() == 3);
+    assert!(rt; profile.entries().len() == 3);
+    assert!(rt; profile.total() == u64::MAX);
+    assert!(rt; profile.alternatives() == 3);
+    assert!(rt; profile.line(0).map(|first| first.weight) == Some(4));
+    assert!(rt; profile.line(3).is_none());
+    Ok(())
+}
+
+#[test]
+fn lines_are_handed_back(rt: HostRuntime) -> Result<(), AllocError> {
+    let mut profile = profile_of(&rt, rt.alloc(), TAKEN)?;
+    for (weight, order, fault) in REFUSED {
+        let refused = add(rt.alloc(), &mut profile, *weight, order)?;
+        expect_refused(&rt, refused, *weight, order, *fault);
+        assert!(rt; profile.lines() == 3);
     }
     Ok(())
 }
