@@ -5,17 +5,17 @@ ghost use Rattle.vir_profile.specs.SocFiles.{is_blank};
 ghost use Rattle.vir_soc.specs.Lines.{trim, trim_back, trim_front, without_mark};
 ghost use Rattle.vir_soc.specs.Numbers.{number};
 
+use memchr::memchr;
+
 /// Where the byte first stands, or the length.
 fn find(byte: u8, text: &[u8]) -> usize
     ensures place { result ≡ position_or_len (λ c. nat_eq c byte) text.now }
     ensures within { result ≤ length text.now }
 {
-    for (i, c) in text.iter().enumerate() {
-        if *c == byte {
-            return i;
-        }
+    match memchr(byte, text) {
+        Some(place) => place,
+        None => text.len(),
     }
-    text.len()
 }
 
 /// What stands before the first such byte, and what stands behind it, if there is one.
