@@ -1,6 +1,8 @@
 -- The name of an alternative in an accepted file is the last one that metadata gives it.
-use Rattle.std.proofs.Common.{◌≡◌, ℕ, suc, ◌+◌, ◌<◌, ◌≤◌, Bool, true, false, cond, not, List, [], ◌∷◌, ◌++◌, length, filter, map, Option, Some, None, Ok, nat_eq, nat_le, nat_lt, refl, ap, subst, sym, ◌∙◌, arith, append-nil}
+use Rattle.std.proofs.Common.{◌≡◌, ℕ, suc, ◌+◌, ◌<◌, ◌≤◌, Bool, true, false, cond, ◌&&◌, not, List, [], ◌∷◌, ◌++◌, length, filter, map, Option, Some, None, Ok, nat_eq, nat_le, nat_lt, Less, Equal, Greater, refl, ap, subst, sym, ◌∙◌, arith}
 use Rattle.std.specs.List.{flat_map, last_or}
+use Rattle.std.specs.Map.{lookup}
+use Rattle.std.specs.Ordering.{match_ordering}
 use Rattle.std.specs.Option.{ok_or}
 use Rattle.std.proofs.lemmas.Bool.Decides.{nat_tests}
 use Rattle.vir_profile.specs.declared.soc_file.Name.{Name}
@@ -13,107 +15,96 @@ use Rattle.vir_soc.specs.Checks.{◌>>=◌, at_line, refuse}
 use Rattle.vir_soc.specs.LineKinds.{LineKind, ballots, kinds_of, metadata, skipped}
 use Rattle.vir_soc.specs.Lines.{lines}
 use Rattle.vir_soc.specs.Metadata.{after_key, alternatives_told, is_soc, number_told}
-use Rattle.vir_soc.specs.Names.{named, names_up_to, with_name}
+use Rattle.vir_soc.specs.Names.{is_name, name_given, names_up_to, with_name}
+use Rattle.vir_soc.specs.Reader.Given.{AreGiven}
 use Rattle.vir_soc.specs.Said.{Said, nothing}
 use Rattle.vir_soc.specs.Soc.{after_line, after_lines, soc}
 use Rattle.vir_soc.specs.Votes.{with_votes}
 use Rattle.vir_soc.proofs.ChainLemmas.{bound, went_well}
 use Rattle.vir_soc.proofs.FileLemmas.{soc-ok}
-
--- ---- names by ascending number
-
--- names by ascending number, each at least this one
-abbrev AreFrom : ℕ → List Name → Type 0
-AreFrom low [] = Unit {0}
-AreFrom low (n ∷ ns) = (low ≤ n.number) × AreFrom (suc n.number) ns
-
-AreFrom-lower : (low high : ℕ) (ns : List Name) → low ≤ high → AreFrom high ns → AreFrom low ns
-AreFrom-lower low high [] l h = tt
-AreFrom-lower low high (n ∷ ns) l h = (omega (arith, h.0), h.1)
-
-module _ (i : ℕ) (text : List ℕ) where
-  AreFrom-named : (empty : Bool) (low : ℕ) (ns : List Name) → low ≤ i → AreFrom (suc i) ns → AreFrom low (cond empty [] (record { number = i; text = text } ∷ []) ++ ns)
-  AreFrom-named true low ns l h = AreFrom-lower low (suc i) ns (omega arith) h
-  AreFrom-named false low ns l h = (l, h)
-
-  AreFrom-placed : (a b : Bool) (low : ℕ) (n : Name) (ns : List Name) → nat_lt n.number i ≡ a → nat_eq n.number i ≡ b → low ≤ i → AreFrom low (n ∷ ns) → (suc n.number ≤ i → AreFrom (suc n.number) (with_name i text ns)) → AreFrom low (cond a (n ∷ with_name i text ns) (cond b (named i text ++ ns) (named i text ++ n ∷ ns)))
-  AreFrom-placed true b low n ns e f l h r = (h.0, r (grind (arith, nat_tests)))
-  AreFrom-placed false true low n ns e f l h r = let same : n.number ≡ i = grind (arith, nat_tests) in AreFrom-named (nat_eq (length text) 0) low ns l (rw (← same) h.1)
-  AreFrom-placed false false low n ns e f l h r = AreFrom-named (nat_eq (length text) 0) low (n ∷ ns) l (grind (arith, nat_tests), h.1)
-
-  AreFrom-with_name : (low : ℕ) (ns : List Name) → low ≤ i → AreFrom low ns → AreFrom low (with_name i text ns)
-  AreFrom-with_name low [] l h = let e = append-nil (named i text) in rw (← e) (AreFrom-named (nat_eq (length text) 0) low [] l tt)
-  AreFrom-with_name low (n ∷ ns) l h = AreFrom-placed (nat_lt n.number i) (nat_eq n.number i) low n ns refl refl l h (λ b. AreFrom-with_name (suc n.number) ns b h.1)
+use Rattle.vir_soc.proofs.NameLemmas.{AreGiven-with_name, Given}
 
 -- ---- look-ups
+
+-- what is given to x
+abbrev text_at : ℕ → Given → Option (List ℕ)
+text_at x given = lookup (nat_eq x) given
+
+abbrev no_name : Option (List ℕ)
+no_name = None
+
+-- any text
+abbrev Any : List ℕ → Type 0
+Any text = Unit {0}
 
 name_of-apart : (x : ℕ) (n : Name) (ns : List Name) → nat_eq n.number x ≡ false → name_of x (n ∷ ns) ≡ name_of x ns
 name_of-apart x n ns h = rw h refl
 
--- a lesser number is that of no name
-name_of-none : (x low : ℕ) (ns : List Name) → x < low → AreFrom low ns → name_of x ns ≡ None
-name_of-none x low [] l h = refl
-name_of-none x low (n ∷ ns) l h =
-    let first = h.0 in
-    let e : nat_eq n.number x ≡ false = grind (arith, nat_tests) in
-    name_of-apart x n ns e ∙ name_of-none x (suc n.number) ns (omega arith) h.1
-
 module _ (x i : ℕ) (text : List ℕ) where
   -- this text where x is i, and else what it was before
   abbrev changed : Option (List ℕ) → Option (List ℕ)
-  changed before = cond (nat_eq i x) (not_empty (Some text)) before
+  changed before = cond (nat_eq x i) (Some text) before
 
-  put_first : (empty same : Bool) (ns : List Name) → nat_eq i x ≡ same → AreFrom (suc i) ns → name_of x (cond empty [] (record { number = i; text = text } ∷ []) ++ ns) ≡ cond same (cond empty None (Some text)) (name_of x ns)
-  put_first true true ns e h = let l : x < suc i = grind (arith, nat_tests) in name_of-none x (suc i) ns l h
-  put_first true false ns e h = refl
-  put_first false true ns e h = rw e refl
-  put_first false false ns e h = rw e refl
+  placed : (below same : Bool) (e : ℕ × List ℕ) (es : Given) → nat_lt i e.0 ≡ below → nat_eq i e.0 ≡ same → text_at x (with_name i text es) ≡ changed (text_at x es) → text_at x (match_ordering (cond below Less (cond same Equal Greater)) ((i, text) ∷ e ∷ es) ((e.0, text) ∷ es) (e ∷ with_name i text es)) ≡ changed (text_at x (e ∷ es))
+  placed true same e es b s r = refl
+  placed false true e es b s r =
+      let is : e.0 ≡ i = grind (arith, nat_tests) in
+      rw is (elim (nat_eq x i) as (λ c. cond c (Some text) (text_at x es) ≡ cond c (Some text) (cond c (Some e.1) (text_at x es))) [ true ↦ refl | false ↦ refl ])
+  placed false false e es b s r = behind (nat_eq x e.0) (nat_eq x i) refl refl where
+    behind : (p q : Bool) → nat_eq x e.0 ≡ p → nat_eq x i ≡ q → cond p (Some e.1) (text_at x (with_name i text es)) ≡ cond q (Some text) (cond p (Some e.1) (text_at x es))
+    behind true true k l = absurd (grind (arith, nat_tests))
+    behind true false k l = refl
+    behind false q k l = r ∙ ap (λ c. cond c (Some text) (text_at x es)) l
 
-  named_first : (ns : List Name) → AreFrom (suc i) ns → name_of x (named i text ++ ns) ≡ changed (name_of x ns)
-  named_first ns h = put_first (nat_eq (length text) 0) (nat_eq i x) ns refl h
-
-  module _ (n : Name) (ns : List Name) where
-    behind : (p q : Bool) → nat_eq n.number x ≡ p → nat_eq i x ≡ q → nat_lt n.number i ≡ true → name_of x (with_name i text ns) ≡ changed (name_of x ns) → name_of x (n ∷ with_name i text ns) ≡ changed (name_of x (n ∷ ns))
-    behind true true k l b r = absurd (grind (arith, nat_tests))
-    behind true false k l b r = rw (k, l) refl
-    behind false q k l b r = name_of-apart x n (with_name i text ns) k ∙ r ∙ ap changed (sym (name_of-apart x n ns k))
-
-    passed_over : (q : Bool) → nat_eq i x ≡ q → n.number ≡ i → changed (name_of x ns) ≡ changed (name_of x (n ∷ ns))
-    passed_over true l s = rw l refl
-    passed_over false l s = let k : nat_eq n.number x ≡ false = rw s l in ap changed (sym (name_of-apart x n ns k))
-
-    placed : (a b : Bool) → nat_lt n.number i ≡ a → nat_eq n.number i ≡ b → AreFrom (suc n.number) ns → name_of x (with_name i text ns) ≡ changed (name_of x ns) → name_of x (cond a (n ∷ with_name i text ns) (cond b (named i text ++ ns) (named i text ++ n ∷ ns))) ≡ changed (name_of x (n ∷ ns))
-    placed true b e f h r = behind (nat_eq n.number x) (nat_eq i x) refl refl e r
-    placed false true e f h r =
-        let same : n.number ≡ i = grind (arith, nat_tests) in
-        named_first ns (rw (← same) h) ∙ passed_over (nat_eq i x) refl same
-    placed false false e f h r = named_first (n ∷ ns) (grind (arith, nat_tests), h)
-
-  name_of-with_name : (low : ℕ) (ns : List Name) → AreFrom low ns → name_of x (with_name i text ns) ≡ changed (name_of x ns)
-  name_of-with_name low [] h = let e = append-nil (named i text) in rw (← e) (named_first [] tt)
-  name_of-with_name low (n ∷ ns) h = placed n ns (nat_lt n.number i) (nat_eq n.number i) refl refl h.1 (name_of-with_name (suc n.number) ns h.1)
+  text_at-with_name : (es : Given) → text_at x (with_name i text es) ≡ changed (text_at x es)
+  text_at-with_name [] = refl
+  text_at-with_name (e ∷ es) = placed (nat_lt i e.0) (nat_eq i e.0) e es refl refl (text_at-with_name es)
 
 module _ (x m : ℕ) where
-  -- the name of x among those up to m
+  -- the name of x, where it is one of m alternatives
   abbrev within : Option (List ℕ) → Option (List ℕ)
   within name = cond (nat_le x m) name None
 
-  among : (n : Name) (ns : List Name) (low same : Bool) → nat_le n.number m ≡ low → nat_eq n.number x ≡ same → name_of x (names_up_to m ns) ≡ within (name_of x ns) → name_of x (cond low (n ∷ names_up_to m ns) (names_up_to m ns)) ≡ within (name_of x (n ∷ ns))
-  among n ns true true l s r = let t : nat_le x m ≡ true = grind (arith, nat_tests) in rw (s, t) refl
-  among n ns false true l s r = let t : nat_le x m ≡ false = grind (arith, nat_tests) in r ∙ rw (s, t) refl
-  among n ns true false l s r = rw s r
-  among n ns false false l s r = rw s r
+  -- a lesser number is that of no name
+  unnamed : (low : ℕ) (es : Given) → x < low → AreGiven Any low es → name_of x (names_up_to m es) ≡ None
+  unnamed low [] l h = refl
+  unnamed low (e ∷ es) l h =
+      let first = h.0 in
+      let apart : nat_eq e.0 x ≡ false = grind (arith, nat_tests) in
+      let rest = unnamed (suc e.0) es (omega arith) h.2 in
+      elim (is_name m e) as (λ b. name_of x (map name_given (cond b (e ∷ filter (is_name m) es) (filter (is_name m) es))) ≡ None) [
+        | true ↦ name_of-apart x (name_given e) (names_up_to m es) apart ∙ rest
+        | false ↦ rest
+      ]
 
-  name_of-up_to : (ns : List Name) → name_of x (names_up_to m ns) ≡ within (name_of x ns)
-  name_of-up_to [] = elim (nat_le x m) as (λ b. name_of x [] ≡ cond b (name_of x []) None) [ true ↦ refl | false ↦ refl ]
-  name_of-up_to (n ∷ ns) = among n ns (nat_le n.number m) (nat_eq n.number x) refl refl (name_of-up_to ns)
+  named : (few some same : Bool) (e : ℕ × List ℕ) (es : Given) → nat_le e.0 m ≡ few → nat_lt 0 (length e.1) ≡ some → nat_eq x e.0 ≡ same → AreGiven Any (suc e.0) es → name_of x (names_up_to m es) ≡ within (not_empty (text_at x es)) → name_of x (map name_given (cond (few && some) (e ∷ filter (is_name m) es) (filter (is_name m) es))) ≡ within (not_empty (cond same (Some e.1) (text_at x es)))
+  named true true true e es f s k h r =
+      let here : nat_eq e.0 x ≡ true = grind (arith, nat_tests) in
+      let t : nat_le x m ≡ true = grind (arith, nat_tests) in
+      let l : nat_eq (length e.1) 0 ≡ false = grind (arith, nat_tests) in
+      rw (here, t, l) refl
+  named true false true e es f s k h r =
+      let below : x < suc e.0 = grind (arith, nat_tests) in
+      let l : nat_eq (length e.1) 0 ≡ true = grind (arith, nat_tests) in
+      unnamed (suc e.0) es below h ∙ rw l (elim (nat_le x m) as (λ b. no_name ≡ cond b no_name no_name) [ true ↦ refl | false ↦ refl ])
+  named false some true e es f s k h r =
+      let below : x < suc e.0 = grind (arith, nat_tests) in
+      let t : nat_le x m ≡ false = grind (arith, nat_tests) in
+      unnamed (suc e.0) es below h ∙ rw t refl
+  named true true false e es f s k h r = let apart : nat_eq e.0 x ≡ false = grind (arith, nat_tests) in name_of-apart x (name_given e) (names_up_to m es) apart ∙ r
+  named true false false e es f s k h r = r
+  named false some false e es f s k h r = r
+
+  name_of-up_to : (low : ℕ) (es : Given) → AreGiven Any low es → name_of x (names_up_to m es) ≡ within (not_empty (text_at x es))
+  name_of-up_to low [] h = elim (nat_le x m) as (λ b. no_name ≡ cond b no_name no_name) [ true ↦ refl | false ↦ refl ]
+  name_of-up_to low (e ∷ es) h = named (nat_le e.0 m) (nat_lt 0 (length e.1)) (nat_eq x e.0) e es refl refl refl h.2 (name_of-up_to (suc e.0) es h.2)
 
 -- ---- lines
 
--- the names in order, of which that of x is this text where it is not empty
-record Names (x : ℕ) (text : Option (List ℕ)) (names : List Name) : Type 0 where
-  pub order : AreFrom 0 names
-  pub is : name_of x names ≡ not_empty text
+-- texts in order, of which that of x is this one
+record Names (x : ℕ) (text : Option (List ℕ)) (given : Given) : Type 0 where
+  pub order : AreGiven Any 0 given
+  pub is : text_at x given ≡ text
 
 -- the names of x that a line gives
 abbrev given_in : ℕ → LineKind → List (List ℕ)
@@ -147,10 +138,10 @@ module _ (x : ℕ) where
   key_names said new n (NameOf i) value before h s =
       let e : record said { names = with_name i value said.names } ≡ new = cc in
       subst (λ (t : Said). Names x (last_or before (given_in x (metadata (NameOf i) value))) t.names) e (record {
-        order = AreFrom-with_name i value 0 said.names (omega arith) s.order;
-        is = name_of-with_name x i value 0 said.names s.order ∙ ap (changed x i value) s.is ∙ given (nat_eq i x);
+        order = AreGiven-with_name Any i value tt 0 said.names (omega arith) s.order;
+        is = text_at-with_name x i value said.names ∙ ap (changed x i value) s.is ∙ given (nat_eq x i);
       }) where
-        given : (same : Bool) → cond same (not_empty (Some value)) (not_empty before) ≡ not_empty (last_or before (map (λ (f : Metadatum). f.value) (cond same (record { key = NameOf i; value = value } ∷ []) [])))
+        given : (same : Bool) → cond same (Some value) before ≡ last_or before (map (λ (f : Metadatum). f.value) (cond same (record { key = NameOf i; value = value } ∷ []) []))
         given true = refl
         given false = refl
   key_names said new n Other value before h s =
@@ -183,4 +174,4 @@ pub names_are_the_last_given : (bytes : List ℕ) (file : File) (i : ℕ) → so
 names_are_the_last_given bytes file i h =
     let a = soc-ok bytes file h in
     let names = lines_names i nothing a.0 1 (kinds_of (lines bytes)) None a.1 (record { order = tt; is = refl }) in
-    ap (name_of i) a.2.names ∙ name_of-up_to i file.profile.alternatives a.0.names ∙ ap (within i file.profile.alternatives) names.is
+    ap (name_of i) a.2.names ∙ name_of-up_to i file.profile.alternatives 0 a.0.names names.order ∙ ap (λ text. within i file.profile.alternatives (not_empty text)) names.is

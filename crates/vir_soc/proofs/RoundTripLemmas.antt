@@ -24,7 +24,7 @@ use Rattle.vir_soc.specs.SocText.{counts_text, metadata_text, name_text, order_t
 use Rattle.vir_soc.proofs.AnyLemmas.{All-none, or_false}
 use Rattle.vir_soc.proofs.DigitLemmas.{line_feed_fails, list_any-decimal}
 use Rattle.vir_soc.proofs.LineLemmas.{after_lines_append}
-use Rattle.vir_soc.proofs.WrittenMetadataLemmas.{alternatives_kind, alternatives_read, kind_of_name, metadata_line, name_key_text, name_kinds, name_line, name_lines-one_line, names_read, names_up_to-all, orders_kind, orders_read, type_kind, voters_kind, voters_read}
+use Rattle.vir_soc.proofs.WrittenMetadataLemmas.{alternatives_kind, alternatives_read, given_of, kind_of_name, metadata_line, name_key_text, name_kinds, name_line, name_lines-one_line, names_read, names_up_to-all, orders_kind, orders_read, type_kind, voters_kind, voters_read}
 use Rattle.vir_soc.proofs.WrittenVotesLemmas.{IsLine, IsLine-accepted, kind_of-votes, votes_line, votes_line-one_line, votes_line-read}
 
 -- ---- lines
@@ -224,13 +224,13 @@ votes_read m said n (e ∷ es) known h few fits =
 
 -- what a file's lines say
 abbrev file_said : File → Said
-file_said file = record (counted file.profile) { names = file.names; votes = file.profile.lines }
+file_said file = record (counted file.profile) { names = given_of file.names; votes = file.profile.lines }
 
 file_read : (file : File) → IsProfile file.profile → AreNames file.profile.alternatives file.names → after_lines nothing 1 (file_kinds file) ≡ Ok (file_said file)
 file_read file p n =
     let profile = file.profile in
     let counts = count_kinds profile in
-    let named : Said = record (counted profile) { names = file.names } in
+    let named : Said = record (counted profile) { names = given_of file.names } in
     let few = p.lines in
     let fits = p.weights in
     let few_lines : 0 + length profile.lines ≤ LINES_LIMIT = omega arith in

@@ -126,22 +126,27 @@ module _ (i : ℕ) (some : 1 ≤ i) (few : i ≤ limit) where
 
 -- ---- the names
 
--- names of numbers up to this one
-abbrev pub AreUpTo : ℕ → List Name → Type 0
+-- what some names are as texts that are given
+abbrev pub given_of : List Name → List (ℕ × List ℕ)
+given_of names = map (λ n. (n.number, n.text)) names
+
+-- texts given to numbers up to this one
+abbrev pub AreUpTo : ℕ → List (ℕ × List ℕ) → Type 0
 AreUpTo high [] = Unit {0}
-AreUpTo high (n ∷ ns) = (n.number ≤ high) × AreUpTo high ns
+AreUpTo high (e ∷ es) = (e.0 ≤ high) × AreUpTo high es
 
-AreUpTo-push : (low high : ℕ) (ns : List Name) (n : Name) → AreUpTo low ns → low ≤ high → n.number ≤ high → AreUpTo high (ns ++ n ∷ [])
-AreUpTo-push low high [] n h l b = (b, tt)
-AreUpTo-push low high (m ∷ ns) n h l b = (omega (arith, h.0), AreUpTo-push low high ns n h.1 l b)
+AreUpTo-push : (low high : ℕ) (es : List (ℕ × List ℕ)) (i : ℕ) (text : List ℕ) → AreUpTo low es → low ≤ high → i ≤ high → AreUpTo high (es ++ (i, text) ∷ [])
+AreUpTo-push low high [] i text h l b = (b, tt)
+AreUpTo-push low high (e ∷ es) i text h l b = (omega (arith, h.0), AreUpTo-push low high es i text h.1 l b)
 
--- a name of a greater number stands behind
-with_name-last : (low : ℕ) (ns : List Name) (n : Name) → AreUpTo low ns → low < n.number → 0 < length n.text → with_name n.number n.text ns ≡ ns ++ n ∷ []
-with_name-last low [] n h l some = let e : nat_eq (length n.text) 0 ≡ false = grind (arith, nat_tests) in rw e refl
-with_name-last low (m ∷ ns) n h l some =
+-- a text given to a greater number stands behind
+with_name-last : (low : ℕ) (es : List (ℕ × List ℕ)) (i : ℕ) (text : List ℕ) → AreUpTo low es → low < i → with_name i text es ≡ es ++ (i, text) ∷ []
+with_name-last low [] i text h l = refl
+with_name-last low (e ∷ es) i text h l =
     let first = h.0 in
-    let t : nat_lt m.number n.number ≡ true = grind (arith, nat_tests) in
-    rw t (ap (λ xs. m ∷ xs) (with_name-last low ns n h.1 l some))
+    let b : nat_lt i e.0 ≡ false = grind (arith, nat_tests) in
+    let s : nat_eq i e.0 ≡ false = grind (arith, nat_tests) in
+    rw (b, s) (ap (λ xs. e ∷ xs) (with_name-last low es i text h.1 l))
 
 -- what the line of a name is read as
 abbrev pub kind_of_name : Name → LineKind
@@ -155,22 +160,23 @@ name_kinds m low (n ∷ ns) few h =
     rw (name_kind n.number (omega arith) (omega arith) n.text h.2, name_kinds m n.number ns few h.3) refl
 
 -- names in ascending order are read one behind the other
-pub names_read : (m low : ℕ) (said : Said) (n : ℕ) (names : List Name) → AreUpTo low said.names → AreNamesAbove low m names → after_lines said n (map kind_of_name names) ≡ Ok (record said { names = said.names ++ names })
+pub names_read : (m low : ℕ) (said : Said) (n : ℕ) (names : List Name) → AreUpTo low said.names → AreNamesAbove low m names → after_lines said n (map kind_of_name names) ≡ Ok (record said { names = said.names ++ given_of names })
 unfolding after_lines
 names_read m low said n [] before h = ap (λ ns. Ok (record said { names = ns })) (sym (append-nil said.names))
 names_read m low said n (name ∷ names) before h =
     let first = h.0 in
-    let text = h.2 in
-    let next : Said = record said { names = said.names ++ name ∷ [] } in
-    rw (with_name-last low said.names name before first text.some) (names_read m name.number next (n + 1) names (AreUpTo-push low name.number said.names name before (omega arith) (omega arith)) h.3 ∙ ap (λ ns. Ok (record said { names = ns })) (append_assoc said.names (name ∷ []) names))
+    let next : Said = record said { names = said.names ++ (name.number, name.text) ∷ [] } in
+    rw (with_name-last low said.names name.number name.text before first) (names_read m name.number next (n + 1) names (AreUpTo-push low name.number said.names name.number name.text before (omega arith) (omega arith)) h.3 ∙ ap (λ ns. Ok (record said { names = ns })) (append_assoc said.names ((name.number, name.text) ∷ []) (given_of names)))
 
--- no name is of a number above m
-pub names_up_to-all : (m low : ℕ) (names : List Name) → AreNamesAbove low m names → names_up_to m names ≡ names
+-- each of them is a name, and of no number above m
+pub names_up_to-all : (m low : ℕ) (names : List Name) → AreNamesAbove low m names → names_up_to m (given_of names) ≡ names
 names_up_to-all m low [] h = refl
 names_up_to-all m low (n ∷ ns) h =
     let most = h.1 in
+    let text = h.2 in
     let t = le-leb n.number m most in
-    rw t (ap (λ xs. n ∷ xs) (names_up_to-all m n.number ns h.3))
+    let some : nat_lt 0 (length n.text) ≡ true = grind (arith, nat_tests, text.some) in
+    rw (t, some) (ap (λ xs. n ∷ xs) (names_up_to-all m n.number ns h.3))
 
 -- no line of a name has a line feed
 pub name_lines-one_line : (m low : ℕ) (names : List Name) → m ≤ limit → AreNamesAbove low m names → list_any (λ text. list_any is_line_feed text) (map name_line names) ≡ false

@@ -61,7 +61,7 @@ is_name_key i DataType = false
 is_name_key i Alternatives = false
 is_name_key i Voters = false
 is_name_key i Orders = false
-is_name_key i (NameOf j) = nat_eq j i
+is_name_key i (NameOf j) = nat_eq i j
 is_name_key i Other = false
 
 -- the values that lines of metadata give as the name of i, in order

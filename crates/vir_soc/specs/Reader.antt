@@ -1,7 +1,7 @@
 -- How a reader goes on from piece to piece, and what it stands for. The format does not stand on this.
 pub mod Answers
 pub mod Steps
-pub mod Places
+pub mod Given
 pub mod Pieces
 pub mod Views
 pub mod Stands

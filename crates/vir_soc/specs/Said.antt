@@ -1,15 +1,14 @@
 -- What lines say.
 use Rattle.std.specs.Prelude.{ℕ, List, [], Option, None}
 use Rattle.vir_profile.specs.declared.ballot.Entry.{Entry}
-use Rattle.vir_profile.specs.declared.soc_file.Name.{Name}
 use Rattle.vir_soc.specs.declared.told.Told.{Told}
 
--- what some lines say: the counts that metadata tells, the names that it gives, and the votes
+-- what some lines say: the counts that metadata tells, what it gives as names, and the votes
 pub record Said : Type 0 where
   pub alternatives : Option ℕ
   pub voters : Option Told
   pub orders : Option Told
-  pub names : List Name
+  pub names : List (ℕ × List ℕ)
   pub votes : List Entry
 
 -- what no lines say

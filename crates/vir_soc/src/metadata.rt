@@ -1,13 +1,14 @@
 ghost use Rattle.std.specs.Prelude.{◌≡◌, ◌≤◌, ◌<◌, false, length, Ok};
 ghost use Rattle.std.specs.List.{list_any};
 ghost use Rattle.vir_altset.specs.Sets.{limit};
-ghost use Rattle.vir_profile.specs.SocFiles.{IsNameText, is_line_feed};
+ghost use Rattle.vir_profile.specs.SocFiles.{is_line_feed};
 ghost use Rattle.vir_soc.specs.Keys.{key_of, name_key};
 ghost use Rattle.vir_soc.specs.LineKinds.{hash_kind};
 ghost use Rattle.vir_soc.specs.Metadata.{after_key, is_soc};
 ghost use Rattle.vir_soc.specs.Names.{with_name};
 ghost use Rattle.vir_soc.specs.Soc.{after_line};
 ghost use Rattle.vir_soc.specs.Reader.Answers.{Gives, kind_in};
+ghost use Rattle.vir_soc.specs.Reader.Given.{MayBeName};
 ghost use Rattle.vir_soc.specs.Reader.Steps.{IsKey};
 ghost use Rattle.vir_soc.specs.Reader.Views.{said_of};
 
@@ -63,17 +64,12 @@ fn is_soc(value: &[u8]) -> bool
     value.eq_ignore_ascii_case(b"soc")
 }
 
-/// Gives this alternative this name, or takes its name away where the text is empty.
+/// Gives this alternative this text as its name.
 fn take_name(alloc: Global, names: &mut Names, number: u16, text: &[u8]) -> Result<(), Stop>
     requires alternative { 1 ≤ number }
-    requires limit { number ≤ limit }
-    requires text { 0 < length text.now → IsNameText text.now }
+    requires text { MayBeName text.now }
     ensures { Gives kind_in (λ _. names.new) result (Ok (with_name number text.now names.old)) }
 {
-    if text.is_empty() {
-        names.remove(number);
-        return Ok(());
-    }
     let bytes = Vec::from_slice(alloc, text)?;
     names.put(number, NameText::of(bytes))?;
     Ok(())
@@ -88,7 +84,7 @@ fn after_key(
     value: &[u8],
 ) -> Result<(), Stop>
     requires key { IsKey key }
-    requires value { 0 < length value.now → IsNameText value.now }
+    requires value { MayBeName value.now }
     ensures { Gives kind_in (λ _. said_of said.new) result
         (after_key (said_of said.old) line key value.now) }
 {

@@ -1,57 +1,35 @@
-ghost use Rattle.std.specs.Prelude.{◌≡◌, ◌≤◌, [], take, drop, ◌++◌, OnOk, length};
-ghost use Rattle.vir_altset.specs.Sets.{limit};
-ghost use Rattle.vir_profile.specs.SocFiles.{AreNames, IsNameText};
-ghost use Rattle.vir_soc.specs.Names.{with_name, names_up_to};
-ghost use Rattle.vir_soc.specs.Reader.Places.{place, without};
+ghost use Rattle.std.specs.Prelude.{◌≡◌, ◌≤◌, [], IfOk, OnOk};
+ghost use Rattle.vir_profile.specs.SocFiles.{AreNames};
+ghost use Rattle.vir_soc.specs.Names.{is_name, names_up_to, with_name};
+ghost use Rattle.vir_soc.specs.Reader.Given.{MayBeName};
 
-use std::alloc::{AllocFailed, Global};
+use std::alloc::{AllocError, AllocFailed, Global};
+use std::collections::BTreeMap;
 use std::marker::Model;
 use vir_profile::{Name, NameText};
 
-/// The names that metadata has given so far, by ascending number.
+/// What metadata has given as names so far: at each number the last text, which may be empty.
 #[derive(Drop)]
 pub struct Names {
-    list: Vec<Name>,
+    given: BTreeMap<u16, NameText, Global>,
 }
 
 impl Model for Names {
-    ghost use Rattle.std.specs.Prelude.{List};
-    ghost use Rattle.vir_altset.specs.Sets.{limit};
-    ghost use Rattle.vir_profile.specs.SocFiles.{AreNames};
-    ghost use Rattle.vir_profile.specs.declared.soc_file.Name.{Name};
+    ghost use Rattle.std.specs.Prelude.{List, ℕ};
+    ghost use Rattle.vir_soc.specs.Reader.Given.{AreGiven, MayBeName};
 
-    ghost Value = { List Name };
+    ghost Value = { List (ℕ × List ℕ) };
 
-    ghost view = { λ a. a.list.items };
+    ghost view = { λ a. a.given.entries };
 
-    ghost invariant = { λ a. AreNames limit a.list.items };
+    ghost invariant = { λ a. AreGiven MayBeName 1 a.given.entries };
 }
 
-/// How many of the names have lesser numbers.
-fn place(list: &[Name], number: u16) -> usize
-    ensures place { result ≡ place number list.now }
-    ensures within { result ≤ length list.now }
+/// Whether a text that is given to this number is the name of one of m alternatives.
+fn is_name(m: u16, number: u16, text: &NameText) -> bool
+    ensures { result ≡ is_name m (number, text.now) }
 {
-    let mut at = 0;
-    for name in list {
-        if name.number >= number {
-            return at;
-        }
-        at += 1;
-    }
-    at
-}
-
-/// Takes the name at this place away, if it is that of this number.
-fn remove_same(list: &mut Vec<Name>, at: usize, number: u16)
-    requires { at ≤ length list.old.items }
-    ensures items { list.new.items
-        ≡ take at list.old.items ++ without number (drop at list.old.items) }
-    ensures within { at ≤ length list.new.items }
-{
-    if at < list.len() && list[at].number == number {
-        let _ = list.remove(at);
-    }
+    number <= m && !text.bytes().is_empty()
 }
 
 impl Names {
@@ -60,40 +38,32 @@ impl Names {
         ensures { result ≡ [] }
     {
         Names {
-            list: Vec::new(alloc),
+            given: BTreeMap::new(alloc),
         }
     }
 
-    /// Takes the name of this alternative away.
-    pub fn remove(&mut self, number: u16)
+    /// Gives this alternative this text in place of another.
+    pub fn put(&mut self, number: u16, text: NameText) -> Result<(), AllocFailed<(u16, NameText)>>
         requires alternative { 1 ≤ number }
-        requires limit { number ≤ limit }
-        ensures { self.new ≡ with_name number [] self.old }
-    {
-        let at = place(&self.list, number);
-        remove_same(&mut self.list, at, number);
-    }
-
-    /// Gives this alternative this name in place of another.
-    pub fn put(&mut self, number: u16, text: NameText) -> Result<(), AllocFailed<Name>>
-        requires alternative { 1 ≤ number }
-        requires limit { number ≤ limit }
-        requires text { IsNameText text }
+        requires text { MayBeName text }
         ensures { OnOk result (self.new ≡ with_name number text self.old) }
     {
-        let at = place(&self.list, number);
-        remove_same(&mut self.list, at, number);
-        self.list.insert(at, Name { number, text })?;
+        self.given.insert(number, text)?;
         Ok(())
     }
 
     /// The names of the alternatives up to m.
-    pub fn up_to(self, m: u16) -> Vec<Name>
-        ensures names { result.items ≡ names_up_to m self }
-        ensures known { AreNames m result.items }
+    pub fn up_to(self, alloc: Global, m: u16) -> Result<Vec<Name>, AllocError>
+        ensures names { IfOk result (λ list. list.items ≡ names_up_to m self) }
+        ensures known { IfOk result (λ list. AreNames m list.items) }
     {
-        let Names { mut list } = self;
-        list.retain(|name| name.number <= m);
-        list
+        let Names { given } = self;
+        let mut list = Vec::new(alloc);
+        for (number, text) in given {
+            if is_name(m, number, &text) {
+                list.push(Name { number, text })?;
+            }
+        }
+        Ok(list)
     }
 }

@@ -1,6 +1,6 @@
 ghost use Rattle.std.specs.Prelude.{◌≡◌, ◌+◌, ◌++◌, ◌≤◌, [], List, ℕ, None, Err, OnOk, IfOk, IfErr};
 ghost use Rattle.vir_soc.specs.declared.fault.SocError.{SocError};
-ghost use Rattle.vir_soc.specs.Reader.Answers.{Follows, Gives, Shows, fault_in};
+ghost use Rattle.vir_soc.specs.Reader.Answers.{Gives, Shows, fault_in};
 ghost use Rattle.vir_soc.specs.Reader.Pieces.{closed, feeds};
 ghost use Rattle.vir_soc.specs.Soc.{agrees, settled, soc, whole};
 ghost use Rattle.vir_soc.specs.Reader.Stands.{stands};
@@ -42,26 +42,26 @@ fn take(alloc: Global, reader: &mut LineReader, size: u64, piece: &[u8]) -> Resu
 }
 
 /// Compares a number that metadata told with this one.
-fn agrees(told: Option<Told>, n: u64, kind: SocKind) -> Result<(), SocFault>
-    ensures { result ≡ agrees told n kind }
+fn agrees(told: Option<Told>, n: u64, kind: SocKind) -> Result<(), SocError>
+    ensures { Gives fault_in (λ unit. unit) result (agrees told n kind) }
 {
     match told {
         None => Ok(()),
         Some(told) => if told.value == n {
             Ok(())
         } else {
-            Err(SocFault {
+            Err(SocError::Fault(SocFault {
                 line: told.line,
                 kind,
-            })
+            }))
         },
     }
 }
 
 /// The file of which all lines say this.
 #[tactic(auto, unfolding(crate::specs::Soc::whole))]
-fn whole(said: Sayings, last: u64) -> Result<SocFile, SocFault>
-    ensures { Follows (λ file. file) result (whole (said_of said) last) }
+fn whole(alloc: Global, said: Sayings, last: u64) -> Result<SocFile, SocError>
+    ensures { Gives fault_in (λ file. file) result (whole (said_of said) last) }
 {
     let Sayings {
         profile,
@@ -70,14 +70,14 @@ fn whole(said: Sayings, last: u64) -> Result<SocFile, SocFault>
         names,
     } = said;
     let Some(profile) = profile else {
-        return Err(SocFault {
+        return Err(SocError::Fault(SocFault {
             line: last,
             kind: SocKind::NoAlternativeCount,
-        });
+        }));
     };
     agrees(voters, profile.total(), SocKind::VotersDiffer)?;
     agrees(orders, profile.lines() as u64, SocKind::OrdersDiffer)?;
-    let names = names.up_to(profile.alternatives());
+    let names = names.up_to(alloc, profile.alternatives())?;
     Ok(SocFile::of(profile, names))
 }
 
@@ -91,10 +91,7 @@ fn close(alloc: Global, said: Sayings, line: u64, last: &Begun) -> Result<SocFil
         Err(Stop::Kind(kind)) => return Err(SocError::Fault(SocFault { line, kind })),
         Err(Stop::Memory) => return Err(SocError::Memory),
     }
-    match whole(said, line) {
-        Ok(file) => Ok(file),
-        Err(fault) => Err(SocError::Fault(fault)),
-    }
+    whole(alloc, said, line)
 }
 
 /// Reads a file in pieces, and keeps at most one unfinished line beside what the lines so far say.
