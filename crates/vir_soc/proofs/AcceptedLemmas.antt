@@ -15,10 +15,10 @@ use Rattle.vir_soc.specs.Accepted.{as_vote, ballots_in, vote_lines, vote_of}
 use Rattle.vir_soc.specs.Checks.{◌>>=◌, at_line, refuse}
 use Rattle.vir_soc.specs.LineKinds.{LineKind, ballots, is_colon, kinds_of, metadata, skipped}
 use Rattle.vir_soc.specs.Lines.{lines, trim}
-use Rattle.vir_soc.specs.Metadata.{after_key, alternatives_told, is_soc, number_told}
+use Rattle.vir_soc.specs.Metadata.{after_key, alternatives_stated, is_soc, number_stated}
 use Rattle.vir_soc.specs.Names.{with_name}
 use Rattle.vir_soc.specs.Numbers.{number}
-use Rattle.vir_soc.specs.Said.{Said, nothing}
+use Rattle.vir_soc.specs.Content.{Content, nothing}
 use Rattle.vir_soc.specs.Soc.{after_line, after_lines, soc}
 use Rattle.vir_soc.specs.Votes.{after_votes, alternative, is_brace, is_comma, order_after, with_order, with_votes}
 use Rattle.vir_soc.proofs.ChainLemmas.{bound, was_some, went_well}
@@ -76,48 +76,48 @@ with_votes_is m votes text new h =
     ∙ map-append as_vote votes (record { weight = b.0; order = e.0 } ∷ [])
     ∙ ap (λ v. map as_vote votes ++ v ∷ []) vote
 
-after_votes_is : (said new : Said) (text : List ℕ) → after_votes said text ≡ Ok new → map as_vote new.votes ≡ map as_vote said.votes ++ vote_of text ∷ []
-after_votes_is said new text h =
-    let a = bound (ok_or said.alternatives kinds.NoAlternativeCount) (λ m. with_votes m said.votes text >>= λ votes. Ok (record said { votes = votes })) new h in
-    let b = bound (with_votes a.0 said.votes text) (λ votes. Ok (record said { votes = votes })) new a.2 in
-    let n : record said { votes = b.0 } ≡ new = cc b.2 in
-    ap (λ (s : Said). map as_vote s.votes) (sym n) ∙ with_votes_is a.0 said.votes text b.0 b.1
+after_votes_is : (content new : Content) (text : List ℕ) → after_votes content text ≡ Ok new → map as_vote new.votes ≡ map as_vote content.votes ++ vote_of text ∷ []
+after_votes_is content new text h =
+    let a = bound (ok_or content.alternatives kinds.NoAlternativeCount) (λ m. with_votes m content.votes text >>= λ votes. Ok (record content { votes = votes })) new h in
+    let b = bound (with_votes a.0 content.votes text) (λ votes. Ok (record content { votes = votes })) new a.2 in
+    let n : record content { votes = b.0 } ≡ new = cc b.2 in
+    ap (λ (s : Content). map as_vote s.votes) (sym n) ∙ with_votes_is a.0 content.votes text b.0 b.1
 
 -- ---- lines
 
-after_key_is : (said new : Said) (line : ℕ) (key : Key) (value : List ℕ) → after_key said line key value ≡ Ok new → new.votes ≡ said.votes
-after_key_is said new line DataType value h =
-    let a = bound (refuse (not (is_soc value)) kinds.WrongType) (λ _. Ok said) new h in
-    let n : said ≡ new = cc a.2 in ap (λ (s : Said). s.votes) (sym n)
-after_key_is said new line Alternatives value h =
-    let a = bound (alternatives_told said.alternatives value) (λ m. Ok (record said { alternatives = Some m })) new h in
-    let n : record said { alternatives = Some a.0 } ≡ new = cc a.2 in ap (λ (s : Said). s.votes) (sym n)
-after_key_is said new line Voters value h =
-    let a = bound (number_told said.voters line value) (λ told. Ok (record said { voters = Some told })) new h in
-    let n : record said { voters = Some a.0 } ≡ new = cc a.2 in ap (λ (s : Said). s.votes) (sym n)
-after_key_is said new line Orders value h =
-    let a = bound (number_told said.orders line value) (λ told. Ok (record said { orders = Some told })) new h in
-    let n : record said { orders = Some a.0 } ≡ new = cc a.2 in ap (λ (s : Said). s.votes) (sym n)
-after_key_is said new line (NameOf i) value h =
-    let n : record said { names = with_name i value said.names } ≡ new = cc in ap (λ (s : Said). s.votes) (sym n)
-after_key_is said new line Other value h = let n : said ≡ new = cc in ap (λ (s : Said). s.votes) (sym n)
+after_key_is : (content new : Content) (line : ℕ) (key : Key) (value : List ℕ) → after_key content line key value ≡ Ok new → new.votes ≡ content.votes
+after_key_is content new line DataType value h =
+    let a = bound (refuse (not (is_soc value)) kinds.WrongType) (λ _. Ok content) new h in
+    let n : content ≡ new = cc a.2 in ap (λ (s : Content). s.votes) (sym n)
+after_key_is content new line Alternatives value h =
+    let a = bound (alternatives_stated content.alternatives value) (λ m. Ok (record content { alternatives = Some m })) new h in
+    let n : record content { alternatives = Some a.0 } ≡ new = cc a.2 in ap (λ (s : Content). s.votes) (sym n)
+after_key_is content new line Voters value h =
+    let a = bound (number_stated content.voters line value) (λ stated. Ok (record content { voters = Some stated })) new h in
+    let n : record content { voters = Some a.0 } ≡ new = cc a.2 in ap (λ (s : Content). s.votes) (sym n)
+after_key_is content new line Orders value h =
+    let a = bound (number_stated content.orders line value) (λ stated. Ok (record content { orders = Some stated })) new h in
+    let n : record content { orders = Some a.0 } ≡ new = cc a.2 in ap (λ (s : Content). s.votes) (sym n)
+after_key_is content new line (NameOf i) value h =
+    let n : record content { names = with_name i value content.names } ≡ new = cc in ap (λ (s : Content). s.votes) (sym n)
+after_key_is content new line Other value h = let n : content ≡ new = cc in ap (λ (s : Content). s.votes) (sym n)
 
-after_line_is : (said new : Said) (n : ℕ) (kind : LineKind) → after_line said n kind ≡ Ok new → map as_vote new.votes ≡ map as_vote said.votes ++ map vote_of (ballots_in kind)
-after_line_is said new n skipped h = let e : said ≡ new = cc in ap (λ (s : Said). map as_vote s.votes) (sym e) ∙ sym (append-nil (map as_vote said.votes))
-after_line_is said new n (metadata key value) h = ap (map as_vote) (after_key_is said new n key value h) ∙ sym (append-nil (map as_vote said.votes))
-after_line_is said new n (ballots text) h = after_votes_is said new text h
+after_line_is : (content new : Content) (n : ℕ) (kind : LineKind) → after_line content n kind ≡ Ok new → map as_vote new.votes ≡ map as_vote content.votes ++ map vote_of (ballots_in kind)
+after_line_is content new n skipped h = let e : content ≡ new = cc in ap (λ (s : Content). map as_vote s.votes) (sym e) ∙ sym (append-nil (map as_vote content.votes))
+after_line_is content new n (metadata key value) h = ap (map as_vote) (after_key_is content new n key value h) ∙ sym (append-nil (map as_vote content.votes))
+after_line_is content new n (ballots text) h = after_votes_is content new text h
 
-after_lines_is : (said new : Said) (n : ℕ) (kinds : List LineKind) → after_lines said n kinds ≡ Ok new → map as_vote new.votes ≡ map as_vote said.votes ++ map vote_of (flat_map ballots_in kinds)
+after_lines_is : (content new : Content) (n : ℕ) (kinds : List LineKind) → after_lines content n kinds ≡ Ok new → map as_vote new.votes ≡ map as_vote content.votes ++ map vote_of (flat_map ballots_in kinds)
 unfolding after_lines
-after_lines_is said new n [] h = let e : said ≡ new = cc in ap (λ (s : Said). map as_vote s.votes) (sym e) ∙ sym (append-nil (map as_vote said.votes))
-after_lines_is said new n (kind ∷ kinds) h =
-    let a = bound (at_line n (after_line said n kind)) (λ s. after_lines s (n + 1) kinds) new h in
-    let line = after_line_is said a.0 n kind (went_well n (after_line said n kind) a.0 a.1) in
+after_lines_is content new n [] h = let e : content ≡ new = cc in ap (λ (s : Content). map as_vote s.votes) (sym e) ∙ sym (append-nil (map as_vote content.votes))
+after_lines_is content new n (kind ∷ kinds) h =
+    let a = bound (at_line n (after_line content n kind)) (λ s. after_lines s (n + 1) kinds) new h in
+    let line = after_line_is content a.0 n kind (went_well n (after_line content n kind) a.0 a.1) in
     let others = map vote_of (flat_map ballots_in kinds) in
     after_lines_is a.0 new (n + 1) kinds a.2
     ∙ ap (λ vs. vs ++ others) line
-    ∙ append_assoc (map as_vote said.votes) (map vote_of (ballots_in kind)) others
-    ∙ ap (λ vs. map as_vote said.votes ++ vs) (sym (map-append vote_of (ballots_in kind) (flat_map ballots_in kinds)))
+    ∙ append_assoc (map as_vote content.votes) (map vote_of (ballots_in kind)) others
+    ∙ ap (λ vs. map as_vote content.votes ++ vs) (sym (map-append vote_of (ballots_in kind) (flat_map ballots_in kinds)))
 
 pub votes_are_lines : (bytes : List ℕ) (file : File) → soc bytes ≡ Ok file → map as_vote file.profile.lines ≡ map vote_of (vote_lines bytes)
 votes_are_lines bytes file h =

@@ -8,9 +8,9 @@ use Rattle.vir_soc.specs.declared.fault.SocFault.{SocFault}
 use Rattle.vir_soc.specs.declared.kind.SocKind.TheVariants.{FileTooLong}
 use Rattle.vir_soc.specs.Checks.{◌>>=◌, at_line, refuse, fault_of}
 use Rattle.vir_soc.specs.Lines.{lines, last_line}
-use Rattle.vir_soc.specs.Said.{Said, nothing}
+use Rattle.vir_soc.specs.Content.{Content, nothing}
 use Rattle.vir_soc.specs.declared.soc_reader.TheConstants.{SIZE_LIMIT}
-use Rattle.vir_soc.specs.Soc.{settled, settled_said}
+use Rattle.vir_soc.specs.Soc.{settled, settled_content}
 use Rattle.vir_soc.specs.Reader.Pieces.{after_texts, ended, unended, Progress, Reading, reads, feeds}
 use Rattle.vir_soc.specs.Reader.Stands.{standing}
 use Rattle.vir_soc.proofs.CutLemmas.{length-lines, ended_lines-is, last_line-is}
@@ -59,17 +59,17 @@ feeds_append r xs ys =
 -- ---- from the start
 
 abbrev pub start : Reading
-start = record { progress = record { said = nothing; line = 1; begun = [] }; size = 0 }
+start = record { progress = record { content = nothing; line = 1; begun = [] }; size = 0 }
 
-abbrev put : ℕ → List ℕ → Said → Result Progress SocFault
-put line begun said = Ok (record { said = said; line = line; begun = begun })
+abbrev put : ℕ → List ℕ → Content → Result Progress SocFault
+put line begun content = Ok (record { content = content; line = line; begun = begun })
 
 -- a file that is too long, of which some lines say this
-past : (r : Result Said SocFault) (line : ℕ) (begun : List ℕ) (size : ℕ) (f : Said → Reading) → nat_lt SIZE_LIMIT size ≡ true → ((r >>= λ _. at_line {A = Said} line (Err FileTooLong)) >>= λ s. Ok (f s)) ≡ ((r >>= put line begun) >>= sized size)
+past : (r : Result Content SocFault) (line : ℕ) (begun : List ℕ) (size : ℕ) (f : Content → Reading) → nat_lt SIZE_LIMIT size ≡ true → ((r >>= λ _. at_line {A = Content} line (Err FileTooLong)) >>= λ s. Ok (f s)) ≡ ((r >>= put line begun) >>= sized size)
 past (Err e) line begun size f t = refl
 past (Ok s) line begun size f t = rw t refl
 
-within : (r : Result Said SocFault) (line : ℕ) (begun : List ℕ) (size : ℕ) → nat_lt SIZE_LIMIT size ≡ false → (r >>= λ s. Ok (record { progress = record { said = s; line = line; begun = begun }; size = size })) ≡ ((r >>= put line begun) >>= sized size)
+within : (r : Result Content SocFault) (line : ℕ) (begun : List ℕ) (size : ℕ) → nat_lt SIZE_LIMIT size ≡ false → (r >>= λ s. Ok (record { progress = record { content = s; line = line; begun = begun }; size = size })) ≡ ((r >>= put line begun) >>= sized size)
 within (Err e) line begun size t = refl
 within (Ok s) line begun size t = rw t refl
 
@@ -82,7 +82,7 @@ standing_is bytes =
       | inl lt ↦ (
           let s : nat_le (length bytes) SIZE_LIMIT ≡ false = grind (arith, nat_tests) in
           let t : nat_lt SIZE_LIMIT (length bytes) ≡ true = grind (arith, nat_tests) in
-          rw (s, z, ended_lines-is w, length-lines w, ← kinds_from-first (ended [] w)) (past (after_texts nothing 1 (ended [] w)) (1 + length (ended [] w)) (unended [] w) (length bytes) (λ said. record { progress = record { said = said; line = length (lines bytes); begun = last_line bytes }; size = length bytes }) t))
+          rw (s, z, ended_lines-is w, length-lines w, ← kinds_from-first (ended [] w)) (past (after_texts nothing 1 (ended [] w)) (1 + length (ended [] w)) (unended [] w) (length bytes) (λ content. record { progress = record { content = content; line = length (lines bytes); begun = last_line bytes }; size = length bytes }) t))
       | inr le ↦ (
           let s : nat_le (length bytes) SIZE_LIMIT ≡ true = grind (arith, nat_tests) in
           let t : nat_lt SIZE_LIMIT (length bytes) ≡ false = grind (arith, nat_tests) in
@@ -99,7 +99,7 @@ standing_start = standing_is [] ∙ ap (λ r. r >>= sized 0) (reads_nothing star
 
 -- a fault is settled where no reader stands
 pub settled_is : (bytes : List ℕ) → settled bytes ≡ fault_of (standing bytes)
-settled_is bytes = of (settled_said bytes) (λ said. record { progress = record { said = said; line = length (lines bytes); begun = last_line bytes }; size = length bytes }) where
-  of : (r : Result Said SocFault) (f : Said → Reading) → fault_of r ≡ fault_of (r >>= λ s. Ok (f s))
+settled_is bytes = of (settled_content bytes) (λ content. record { progress = record { content = content; line = length (lines bytes); begun = last_line bytes }; size = length bytes }) where
+  of : (r : Result Content SocFault) (f : Content → Reading) → fault_of r ≡ fault_of (r >>= λ s. Ok (f s))
   of (Ok s) f = refl
   of (Err e) f = refl

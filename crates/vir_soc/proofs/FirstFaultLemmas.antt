@@ -10,8 +10,8 @@ use Rattle.vir_soc.specs.declared.kind.SocKind.{SocKind}
 use Rattle.vir_soc.specs.Checks.{◌>>=◌, at_line, fault_of}
 use Rattle.vir_soc.specs.LineKinds.{LineKind, kinds_of}
 use Rattle.vir_soc.specs.Lines.{ended_lines, lines}
-use Rattle.vir_soc.specs.Said.{Said, nothing}
-use Rattle.vir_soc.specs.Soc.{after_line, after_lines, ended_said, settled, soc}
+use Rattle.vir_soc.specs.Content.{Content, nothing}
+use Rattle.vir_soc.specs.Soc.{after_line, after_lines, ended_content, settled, soc}
 use Rattle.vir_soc.specs.declared.soc_reader.TheConstants.{SIZE_LIMIT}
 use Rattle.vir_soc.proofs.LineLemmas.{kinds_from-first, length-kinds_from}
 use Rattle.vir_soc.proofs.StandLemmas.{fault_stays}
@@ -24,11 +24,11 @@ line_is n (Err k) f h =
     ap (λ (g : SocFault). g.line) (sym e)
 
 -- a fault of some lines stands at one of them
-pub fault_within : (said : Said) (n : ℕ) (kinds : List LineKind) (f : SocFault) → after_lines said n kinds ≡ Err f → (n ≤ f.line) × (f.line < n + length kinds)
+pub fault_within : (content : Content) (n : ℕ) (kinds : List LineKind) (f : SocFault) → after_lines content n kinds ≡ Err f → (n ≤ f.line) × (f.line < n + length kinds)
 unfolding after_lines
-fault_within said n [] f h = absurd cc
-fault_within said n (kind ∷ kinds) f h = of (at_line n (after_line said n kind)) (λ g e. line_is n (after_line said n kind) g e) (λ s e. fault_within s (n + 1) kinds f e) h where
-  of : (r : Result Said SocFault) → ((g : SocFault) → r ≡ Err g → g.line ≡ n) → ((s : Said) → after_lines s (n + 1) kinds ≡ Err f → (n + 1 ≤ f.line) × (f.line < n + 1 + length kinds)) → (r >>= λ s. after_lines s (n + 1) kinds) ≡ Err f → (n ≤ f.line) × (f.line < n + suc (length kinds))
+fault_within content n [] f h = absurd cc
+fault_within content n (kind ∷ kinds) f h = of (at_line n (after_line content n kind)) (λ g e. line_is n (after_line content n kind) g e) (λ s e. fault_within s (n + 1) kinds f e) h where
+  of : (r : Result Content SocFault) → ((g : SocFault) → r ≡ Err g → g.line ≡ n) → ((s : Content) → after_lines s (n + 1) kinds ≡ Err f → (n + 1 ≤ f.line) × (f.line < n + 1 + length kinds)) → (r >>= λ s. after_lines s (n + 1) kinds) ≡ Err f → (n ≤ f.line) × (f.line < n + suc (length kinds))
   of (Ok s) here later e =
       let q = later s e in
       let l = q.0 in
@@ -45,7 +45,7 @@ length-ended_lines bytes =
     let k = length-take-le (length (lines bytes) - 1) (lines bytes) (omega arith) in
     omega arith
 
-was_err : (r : Result Said SocFault) (f : SocFault) → fault_of r ≡ Some f → r ≡ Err f
+was_err : (r : Result Content SocFault) (f : SocFault) → fault_of r ≡ Some f → r ≡ Err f
 was_err (Ok s) f h = absurd cc
 was_err (Err g) f h = cc
 
@@ -53,7 +53,7 @@ was_err (Err g) f h = cc
 settled_line : (bytes : List ℕ) (f : SocFault) → length bytes ≤ SIZE_LIMIT → settled bytes ≡ Some f → f.line ≤ count_by is_line_feed bytes
 settled_line bytes f fits h =
     let t = le-leb (length bytes) SIZE_LIMIT fits in
-    let e : ended_said bytes ≡ Err f = was_err (ended_said bytes) f (rw t at h) in
+    let e : ended_content bytes ≡ Err f = was_err (ended_content bytes) f (rw t at h) in
     let within = fault_within nothing 1 (kinds_of (ended_lines bytes)) f e in
     let last = within.1 in
     let n = length-kinds_of (ended_lines bytes) in

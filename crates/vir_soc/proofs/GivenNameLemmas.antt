@@ -14,10 +14,10 @@ use Rattle.vir_soc.specs.Accepted.{Metadatum, is_name_key, last_name, metadata_i
 use Rattle.vir_soc.specs.Checks.{◌>>=◌, at_line, refuse}
 use Rattle.vir_soc.specs.LineKinds.{LineKind, ballots, kinds_of, metadata, skipped}
 use Rattle.vir_soc.specs.Lines.{lines}
-use Rattle.vir_soc.specs.Metadata.{after_key, alternatives_told, is_soc, number_told}
+use Rattle.vir_soc.specs.Metadata.{after_key, alternatives_stated, is_soc, number_stated}
 use Rattle.vir_soc.specs.Names.{is_name, name_given, names_up_to, with_name}
 use Rattle.vir_soc.specs.Reader.Given.{AreGiven}
-use Rattle.vir_soc.specs.Said.{Said, nothing}
+use Rattle.vir_soc.specs.Content.{Content, nothing}
 use Rattle.vir_soc.specs.Soc.{after_line, after_lines, soc}
 use Rattle.vir_soc.specs.Votes.{with_votes}
 use Rattle.vir_soc.proofs.ChainLemmas.{bound, went_well}
@@ -118,55 +118,55 @@ module _ (x : ℕ) where
     | false ↦ names_then before facts more
   ]
 
-  key_names : (said new : Said) (n : ℕ) (key : Key) (value : List ℕ) (before : Option (List ℕ)) → after_key said n key value ≡ Ok new → Names x before said.names → Names x (last_or before (given_in x (metadata key value))) new.names
-  key_names said new n DataType value before h s =
-      let a = bound (refuse (not (is_soc value)) kinds.WrongType) (λ _. Ok said) new h in
-      let e : said ≡ new = cc a.2 in
-      subst (λ (t : Said). Names x before t.names) e s
-  key_names said new n Alternatives value before h s =
-      let a = bound (alternatives_told said.alternatives value) (λ m. Ok (record said { alternatives = Some m })) new h in
-      let e : record said { alternatives = Some a.0 } ≡ new = cc a.2 in
-      subst (λ (t : Said). Names x before t.names) e s
-  key_names said new n Voters value before h s =
-      let a = bound (number_told said.voters n value) (λ told. Ok (record said { voters = Some told })) new h in
-      let e : record said { voters = Some a.0 } ≡ new = cc a.2 in
-      subst (λ (t : Said). Names x before t.names) e s
-  key_names said new n Orders value before h s =
-      let a = bound (number_told said.orders n value) (λ told. Ok (record said { orders = Some told })) new h in
-      let e : record said { orders = Some a.0 } ≡ new = cc a.2 in
-      subst (λ (t : Said). Names x before t.names) e s
-  key_names said new n (NameOf i) value before h s =
-      let e : record said { names = with_name i value said.names } ≡ new = cc in
-      subst (λ (t : Said). Names x (last_or before (given_in x (metadata (NameOf i) value))) t.names) e (record {
-        order = AreGiven-with_name Any i value tt 0 said.names (omega arith) s.order;
-        is = text_at-with_name x i value said.names ∙ ap (changed x i value) s.is ∙ given (nat_eq x i);
+  key_names : (content new : Content) (n : ℕ) (key : Key) (value : List ℕ) (before : Option (List ℕ)) → after_key content n key value ≡ Ok new → Names x before content.names → Names x (last_or before (given_in x (metadata key value))) new.names
+  key_names content new n DataType value before h s =
+      let a = bound (refuse (not (is_soc value)) kinds.WrongType) (λ _. Ok content) new h in
+      let e : content ≡ new = cc a.2 in
+      subst (λ (t : Content). Names x before t.names) e s
+  key_names content new n Alternatives value before h s =
+      let a = bound (alternatives_stated content.alternatives value) (λ m. Ok (record content { alternatives = Some m })) new h in
+      let e : record content { alternatives = Some a.0 } ≡ new = cc a.2 in
+      subst (λ (t : Content). Names x before t.names) e s
+  key_names content new n Voters value before h s =
+      let a = bound (number_stated content.voters n value) (λ stated. Ok (record content { voters = Some stated })) new h in
+      let e : record content { voters = Some a.0 } ≡ new = cc a.2 in
+      subst (λ (t : Content). Names x before t.names) e s
+  key_names content new n Orders value before h s =
+      let a = bound (number_stated content.orders n value) (λ stated. Ok (record content { orders = Some stated })) new h in
+      let e : record content { orders = Some a.0 } ≡ new = cc a.2 in
+      subst (λ (t : Content). Names x before t.names) e s
+  key_names content new n (NameOf i) value before h s =
+      let e : record content { names = with_name i value content.names } ≡ new = cc in
+      subst (λ (t : Content). Names x (last_or before (given_in x (metadata (NameOf i) value))) t.names) e (record {
+        order = AreGiven-with_name Any i value tt 0 content.names (omega arith) s.order;
+        is = text_at-with_name x i value content.names ∙ ap (changed x i value) s.is ∙ given (nat_eq x i);
       }) where
         given : (same : Bool) → cond same (Some value) before ≡ last_or before (map (λ (f : Metadatum). f.value) (cond same (record { key = NameOf i; value = value } ∷ []) []))
         given true = refl
         given false = refl
-  key_names said new n Other value before h s =
-      let e : said ≡ new = cc in
-      subst (λ (t : Said). Names x before t.names) e s
+  key_names content new n Other value before h s =
+      let e : content ≡ new = cc in
+      subst (λ (t : Content). Names x before t.names) e s
 
-  line_names : (said new : Said) (n : ℕ) (kind : LineKind) (before : Option (List ℕ)) → after_line said n kind ≡ Ok new → Names x before said.names → Names x (last_or before (given_in x kind)) new.names
-  line_names said new n skipped before h s =
-      let e : said ≡ new = cc in
-      subst (λ (t : Said). Names x before t.names) e s
-  line_names said new n (metadata key value) before h s = key_names said new n key value before h s
-  line_names said new n (ballots text) before h s =
-      let a = bound (ok_or said.alternatives kinds.NoAlternativeCount) (λ m. with_votes m said.votes text >>= λ votes. Ok (record said { votes = votes })) new h in
-      let b = bound (with_votes a.0 said.votes text) (λ votes. Ok (record said { votes = votes })) new a.2 in
-      let e : record said { votes = b.0 } ≡ new = cc b.2 in
-      subst (λ (t : Said). Names x before t.names) e s
+  line_names : (content new : Content) (n : ℕ) (kind : LineKind) (before : Option (List ℕ)) → after_line content n kind ≡ Ok new → Names x before content.names → Names x (last_or before (given_in x kind)) new.names
+  line_names content new n skipped before h s =
+      let e : content ≡ new = cc in
+      subst (λ (t : Content). Names x before t.names) e s
+  line_names content new n (metadata key value) before h s = key_names content new n key value before h s
+  line_names content new n (ballots text) before h s =
+      let a = bound (ok_or content.alternatives kinds.NoAlternativeCount) (λ m. with_votes m content.votes text >>= λ votes. Ok (record content { votes = votes })) new h in
+      let b = bound (with_votes a.0 content.votes text) (λ votes. Ok (record content { votes = votes })) new a.2 in
+      let e : record content { votes = b.0 } ≡ new = cc b.2 in
+      subst (λ (t : Content). Names x before t.names) e s
 
-  lines_names : (said new : Said) (n : ℕ) (kinds : List LineKind) (before : Option (List ℕ)) → after_lines said n kinds ≡ Ok new → Names x before said.names → Names x (last_or before (names_given x (flat_map metadata_in kinds))) new.names
+  lines_names : (content new : Content) (n : ℕ) (kinds : List LineKind) (before : Option (List ℕ)) → after_lines content n kinds ≡ Ok new → Names x before content.names → Names x (last_or before (names_given x (flat_map metadata_in kinds))) new.names
   unfolding after_lines
-  lines_names said new n [] before h s =
-      let e : said ≡ new = cc in
-      subst (λ (t : Said). Names x before t.names) e s
-  lines_names said new n (kind ∷ kinds) before h s =
-      let a = bound (at_line n (after_line said n kind)) (λ t. after_lines t (n + 1) kinds) new h in
-      let line = line_names said a.0 n kind before (went_well n (after_line said n kind) a.0 a.1) s in
+  lines_names content new n [] before h s =
+      let e : content ≡ new = cc in
+      subst (λ (t : Content). Names x before t.names) e s
+  lines_names content new n (kind ∷ kinds) before h s =
+      let a = bound (at_line n (after_line content n kind)) (λ t. after_lines t (n + 1) kinds) new h in
+      let line = line_names content a.0 n kind before (went_well n (after_line content n kind) a.0 a.1) s in
       let later = lines_names a.0 new (n + 1) kinds (last_or before (given_in x kind)) a.2 line in
       subst (λ o. Names x o new.names) (sym (names_then before (metadata_in kind) (flat_map metadata_in kinds))) later
 

@@ -7,7 +7,7 @@ use Rattle.std.proofs.lemmas.List.Sums.{fails_before_first, passes_at_first, spl
 use Rattle.vir_soc.specs.declared.fault.SocFault.{SocFault}
 use Rattle.vir_profile.specs.SocFiles.{is_line_feed}
 use Rattle.vir_soc.specs.Checks.{◌>>=◌, at_line}
-use Rattle.vir_soc.specs.Said.{Said}
+use Rattle.vir_soc.specs.Content.{Content}
 use Rattle.vir_soc.specs.LineKinds.{LineKind, kinds_of, text_kind}
 use Rattle.vir_soc.specs.Lines.{trim, without_mark}
 use Rattle.vir_soc.specs.Soc.{after_line, after_lines}
@@ -110,7 +110,7 @@ unfolding kinds_from
 length-kinds_from n [] = refl
 length-kinds_from n (x ∷ xs) = ap suc (length-kinds_from (n + 1) xs)
 
-pub after_lines_append : (s : Said) (n : ℕ) (xs ys : List LineKind) → after_lines s n (xs ++ ys) ≡ (after_lines s n xs >>= λ t. after_lines t (n + length xs) ys)
+pub after_lines_append : (s : Content) (n : ℕ) (xs ys : List LineKind) → after_lines s n (xs ++ ys) ≡ (after_lines s n xs >>= λ t. after_lines t (n + length xs) ys)
 unfolding after_lines
 after_lines_append s n [] ys = ap (λ k. after_lines s k ys) (sym (add-zero n))
 after_lines_append s n (x ∷ xs) ys =
@@ -120,7 +120,7 @@ after_lines_append s n (x ∷ xs) ys =
       | Err f ↦ refl
     ]
 
-pub after_texts_append : (s : Said) (n : ℕ) (xs ys : List (List ℕ)) → after_texts s n (xs ++ ys) ≡ (after_texts s n xs >>= λ t. after_texts t (n + length xs) ys)
+pub after_texts_append : (s : Content) (n : ℕ) (xs ys : List (List ℕ)) → after_texts s n (xs ++ ys) ≡ (after_texts s n xs >>= λ t. after_texts t (n + length xs) ys)
 after_texts_append s n xs ys =
     ap (after_lines s n) (kinds_from_append n xs ys)
     ∙ after_lines_append s n (kinds_from n xs) (kinds_from (n + length xs) ys)
@@ -128,24 +128,24 @@ after_texts_append s n xs ys =
 
 -- ---- pieces
 
-abbrev put : ℕ → List ℕ → Said → Result Progress SocFault
-put line begun said = Ok (record { said = said; line = line; begun = begun })
+abbrev put : ℕ → List ℕ → Content → Result Progress SocFault
+put line begun content = Ok (record { content = content; line = line; begun = begun })
 
-then_lines : (r : Result Said SocFault) (line : ℕ) (rest : List ℕ) → ((r >>= λ s. after_texts s (line + 1) (ended [] rest)) >>= put (line + suc (length (ended [] rest))) (unended [] rest)) ≡ ((r >>= put (line + 1) []) >>= λ (q : Progress). reads q rest)
+then_lines : (r : Result Content SocFault) (line : ℕ) (rest : List ℕ) → ((r >>= λ s. after_texts s (line + 1) (ended [] rest)) >>= put (line + suc (length (ended [] rest))) (unended [] rest)) ≡ ((r >>= put (line + 1) []) >>= λ (q : Progress). reads q rest)
 then_lines (Err f) line rest = refl
 then_lines (Ok s) line rest = let e : line + suc (length (ended [] rest)) ≡ line + 1 + length (ended [] rest) = omega arith in ap (λ n. after_texts s (line + 1) (ended [] rest) >>= put n (unended [] rest)) e
 
 -- a line that ends in these bytes, and the bytes behind it
 pub reads_end : (p : Progress) (rest : List ℕ) → position_or_len is_line_feed rest < length rest → reads p rest ≡ (end_line p (before_first is_line_feed rest) >>= λ q. reads q (after_first is_line_feed rest))
 unfolding after_lines after_text kinds_from
-reads_end p rest h = rw (ended_first rest h p.begun, unended_first rest h p.begun) (then_lines (at_line p.line (after_text p.said p.line (p.begun ++ before_first is_line_feed rest))) p.line (after_first is_line_feed rest))
+reads_end p rest h = rw (ended_first rest h p.begun, unended_first rest h p.begun) (then_lines (at_line p.line (after_text p.content p.line (p.begun ++ before_first is_line_feed rest))) p.line (after_first is_line_feed rest))
 
 -- bytes that end no line
-pub reads_none : (p : Progress) (rest : List ℕ) → position_or_len is_line_feed rest ≡ length rest → reads p rest ≡ Ok (record { said = p.said; line = p.line; begun = p.begun ++ rest })
+pub reads_none : (p : Progress) (rest : List ℕ) → position_or_len is_line_feed rest ≡ length rest → reads p rest ≡ Ok (record { content = p.content; line = p.line; begun = p.begun ++ rest })
 unfolding after_lines after_text kinds_from
-reads_none p rest e = rw (ended_none p.begun rest (rest_has_none rest e), unended_none p.begun rest (rest_has_none rest e)) (ap (λ n. put n (p.begun ++ rest) p.said) (add-zero p.line))
+reads_none p rest e = rw (ended_none p.begun rest (rest_has_none rest e), unended_none p.begun rest (rest_has_none rest e)) (ap (λ n. put n (p.begun ++ rest) p.content) (add-zero p.line))
 
-join : (r : Result Said SocFault) (n : ℕ) (begun bytes : List ℕ) → ((r >>= λ t. after_texts t n (ended begun bytes)) >>= put (n + length (ended begun bytes)) (unended begun bytes)) ≡ ((r >>= put n begun) >>= λ (q : Progress). reads q bytes)
+join : (r : Result Content SocFault) (n : ℕ) (begun bytes : List ℕ) → ((r >>= λ t. after_texts t n (ended begun bytes)) >>= put (n + length (ended begun bytes)) (unended begun bytes)) ≡ ((r >>= put n begun) >>= λ (q : Progress). reads q bytes)
 join (Ok s) n begun bytes = refl
 join (Err f) n begun bytes = refl
 
@@ -156,7 +156,7 @@ reads_append p xs ys =
     let begun = unended p.begun xs in
     let later = ended begun ys in
     let n : p.line + length (first ++ later) ≡ p.line + length first + length later = omega (arith, length-append first later) in
-    rw (ended_append p.begun xs ys, unended_append p.begun xs ys, n, after_texts_append p.said p.line first later) (join (after_texts p.said p.line first) (p.line + length first) begun ys)
+    rw (ended_append p.begun xs ys, unended_append p.begun xs ys, n, after_texts_append p.content p.line first later) (join (after_texts p.content p.line first) (p.line + length first) begun ys)
 
 pub reads_nothing : (p : Progress) → reads p [] ≡ Ok p
-reads_nothing p = reads_none p [] refl ∙ ap (λ b. put p.line b p.said) (append-nil p.begun)
+reads_nothing p = reads_none p [] refl ∙ ap (λ b. put p.line b p.content) (append-nil p.begun)

@@ -17,8 +17,8 @@ use Rattle.vir_soc.specs.declared.fault.SocFault.{SocFault}
 use Rattle.vir_soc.specs.declared.key.Key.TheVariants.{DataType, Alternatives, Voters, Orders}
 use Rattle.vir_soc.specs.LineKinds.{LineKind, ballots, kinds_of, metadata, skipped, text_kind}
 use Rattle.vir_soc.specs.Lines.{lines, trim}
-use Rattle.vir_soc.specs.Said.{Said, nothing}
-use Rattle.vir_soc.specs.Soc.{after_line, after_lines, file_of, said_by, soc, whole}
+use Rattle.vir_soc.specs.Content.{Content, nothing}
+use Rattle.vir_soc.specs.Soc.{after_line, after_lines, file_of, content_of_lines, soc, complete_file}
 use Rattle.vir_soc.specs.declared.soc_reader.TheConstants.{SIZE_LIMIT}
 use Rattle.vir_soc.specs.SocText.{counts_text, metadata_text, name_text, order_text, soc_text, votes_text}
 use Rattle.vir_soc.proofs.AnyLemmas.{All-none, or_false}
@@ -50,11 +50,11 @@ is_torn-append : (first later : List (List ℕ)) → is_torn first ≡ false →
 is_torn-append first later f l = list_any-append (λ text. list_any is_line_feed text) first later ∙ rw (f, l) refl
 
 -- the file that some lines of these kinds are, as the text of these lines is
-soc-ended_text : (texts : List (List ℕ)) (kinds : List LineKind) (said : Said) → is_torn texts ≡ false → kinds_of (texts ++ [] ∷ []) ≡ kinds ++ skipped ∷ [] → after_lines nothing 1 kinds ≡ Ok said → length (ended_text texts) ≤ SIZE_LIMIT → soc (ended_text texts) ≡ whole said (length (texts ++ [] ∷ []))
+soc-ended_text : (texts : List (List ℕ)) (kinds : List LineKind) (content : Content) → is_torn texts ≡ false → kinds_of (texts ++ [] ∷ []) ≡ kinds ++ skipped ∷ [] → after_lines nothing 1 kinds ≡ Ok content → length (ended_text texts) ≤ SIZE_LIMIT → soc (ended_text texts) ≡ complete_file content (length (texts ++ [] ∷ []))
 unfolding after_lines
-soc-ended_text texts kinds said torn are read fits =
+soc-ended_text texts kinds content torn are read fits =
     let fits_is = le-leb (length (ended_text texts)) SIZE_LIMIT fits in
-    let last : said_by (texts ++ [] ∷ []) ≡ Ok said = ap (after_lines nothing 1) are ∙ after_lines_append nothing 1 kinds (skipped ∷ []) ∙ rw read refl in
+    let last : content_of_lines (texts ++ [] ∷ []) ≡ Ok content = ap (after_lines nothing 1) are ∙ after_lines_append nothing 1 kinds (skipped ∷ []) ∙ rw read refl in
     rw fits_is (ap file_of (lines-ended_text texts torn) ∙ rw last refl)
 
 -- ---- the lines of a file
@@ -143,7 +143,7 @@ written_lines-torn file p n =
 -- ---- what the lines say
 
 -- what the counts say
-abbrev counted : Votes → Said
+abbrev counted : Votes → Content
 counted profile = record {
   alternatives = Some profile.alternatives;
   voters = Some (record { value = total_weight profile.lines; line = 3 });
@@ -206,31 +206,31 @@ counts_read : (profile : Votes) → IsProfile profile → after_lines nothing 1 
 unfolding after_lines
 counts_read profile h =
     let fewer = h.lines in
-    let s2 : Said = record nothing { alternatives = Some profile.alternatives } in
-    let s3 : Said = record s2 { voters = Some (record { value = total_weight profile.lines; line = 3 }) } in
+    let s2 : Content = record nothing { alternatives = Some profile.alternatives } in
+    let s3 : Content = record s2 { voters = Some (record { value = total_weight profile.lines; line = 3 }) } in
     rw (alternatives_read nothing 2 profile.alternatives h.some h.few refl, voters_read s2 3 (total_weight profile.lines) h.weights refl, orders_read s3 4 (length profile.lines) (omega arith) refl) refl
 
-votes_read : (m : ℕ) (said : Said) (n : ℕ) (entries : List Entry) → said.alternatives ≡ Some m → AreLines m entries → length said.votes + length entries ≤ LINES_LIMIT → total_weight said.votes + total_weight entries ≤ voters_limit → after_lines said n (map kind_of_votes entries) ≡ Ok (record said { votes = said.votes ++ entries })
+votes_read : (m : ℕ) (content : Content) (n : ℕ) (entries : List Entry) → content.alternatives ≡ Some m → AreLines m entries → length content.votes + length entries ≤ LINES_LIMIT → total_weight content.votes + total_weight entries ≤ voters_limit → after_lines content n (map kind_of_votes entries) ≡ Ok (record content { votes = content.votes ++ entries })
 unfolding after_lines
-votes_read m said n [] known h few fits = let put : List Entry → Result Said SocFault = λ votes. Ok (record said { votes = votes }) in ap put (sym (append-nil said.votes))
-votes_read m said n (e ∷ es) known h few fits =
-    let put : List Entry → Result Said SocFault = λ votes. Ok (record said { votes = votes }) in
-    let next : Said = record said { votes = said.votes ++ e ∷ [] } in
+votes_read m content n [] known h few fits = let put : List Entry → Result Content SocFault = λ votes. Ok (record content { votes = votes }) in ap put (sym (append-nil content.votes))
+votes_read m content n (e ∷ es) known h few fits =
+    let put : List Entry → Result Content SocFault = λ votes. Ok (record content { votes = votes }) in
+    let next : Content = record content { votes = content.votes ++ e ∷ [] } in
     let first = sum_by-cons (λ (entry : Entry). entry.weight) e es in
-    let sum = sum_by_push (λ (entry : Entry). entry.weight) said.votes e in
-    let len = length-append said.votes (e ∷ []) in
-    let line : after_line said n (kind_of_votes e) ≡ Ok next = votes_line-read m e (first_line m e es h) said n known (omega arith) (omega arith) in
-    rw line (votes_read m next (n + 1) es known (other_lines m e es h) (omega arith) (omega arith) ∙ ap put (append_assoc said.votes (e ∷ []) es))
+    let sum = sum_by_push (λ (entry : Entry). entry.weight) content.votes e in
+    let len = length-append content.votes (e ∷ []) in
+    let line : after_line content n (kind_of_votes e) ≡ Ok next = votes_line-read m e (first_line m e es h) content n known (omega arith) (omega arith) in
+    rw line (votes_read m next (n + 1) es known (other_lines m e es h) (omega arith) (omega arith) ∙ ap put (append_assoc content.votes (e ∷ []) es))
 
 -- what a file's lines say
-abbrev file_said : File → Said
-file_said file = record (counted file.profile) { names = given_of file.names; votes = file.profile.lines }
+abbrev file_content : File → Content
+file_content file = record (counted file.profile) { names = given_of file.names; votes = file.profile.lines }
 
-file_read : (file : File) → IsProfile file.profile → AreNames file.profile.alternatives file.names → after_lines nothing 1 (file_kinds file) ≡ Ok (file_said file)
+file_read : (file : File) → IsProfile file.profile → AreNames file.profile.alternatives file.names → after_lines nothing 1 (file_kinds file) ≡ Ok (file_content file)
 file_read file p n =
     let profile = file.profile in
     let counts = count_kinds profile in
-    let named : Said = record (counted profile) { names = given_of file.names } in
+    let named : Content = record (counted profile) { names = given_of file.names } in
     let few = p.lines in
     let fits = p.weights in
     let few_lines : 0 + length profile.lines ≤ LINES_LIMIT = omega arith in
@@ -240,13 +240,13 @@ file_read file p n =
     let votes = votes_read profile.alternatives named (1 + length (counts ++ map kind_of_name file.names)) profile.lines refl (AreLines-profile profile p) few_lines few_voters in
     after_lines_append nothing 1 (counts ++ map kind_of_name file.names) (map kind_of_votes profile.lines) ∙ rw before votes
 
-whole-file : (file : File) (last : ℕ) → AreNames file.profile.alternatives file.names → whole (file_said file) last ≡ Ok file
-unfolding whole
-whole-file file last n = rw (eq-eqb (total_weight file.profile.lines) (total_weight file.profile.lines) refl, eq-eqb (length file.profile.lines) (length file.profile.lines) refl, names_up_to-all file.profile.alternatives 0 file.names n) refl
+complete_file-file : (file : File) (last : ℕ) → AreNames file.profile.alternatives file.names → complete_file (file_content file) last ≡ Ok file
+unfolding complete_file
+complete_file-file file last n = rw (eq-eqb (total_weight file.profile.lines) (total_weight file.profile.lines) refl, eq-eqb (length file.profile.lines) (length file.profile.lines) refl, names_up_to-all file.profile.alternatives 0 file.names n) refl
 
 -- the text of a file is read as that file
 pub soc-soc_text : (file : File) → IsProfile file.profile → AreNames file.profile.alternatives file.names → length (soc_text file) ≤ SIZE_LIMIT → soc (soc_text file) ≡ Ok file
 soc-soc_text file p n fits =
     let text = soc_text-lines file in
     let same_length = ap length text in
-    ap soc text ∙ soc-ended_text (written_lines file) (file_kinds file) (file_said file) (written_lines-torn file p n) (written_lines-kinds file p n) (file_read file p n) (omega arith) ∙ whole-file file (length (written_lines file ++ [] ∷ [])) n
+    ap soc text ∙ soc-ended_text (written_lines file) (file_kinds file) (file_content file) (written_lines-torn file p n) (written_lines-kinds file p n) (file_read file p n) (omega arith) ∙ complete_file-file file (length (written_lines file ++ [] ∷ [])) n

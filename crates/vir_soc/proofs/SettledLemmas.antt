@@ -9,13 +9,13 @@ use Rattle.vir_profile.specs.SocFiles.{File, is_line_feed}
 use Rattle.vir_soc.specs.declared.fault.SocFault.{SocFault}
 use Rattle.vir_soc.specs.declared.kind.SocKind.{SocKind}
 use Rattle.vir_soc.specs.declared.kind.SocKind.TheVariants as kinds
-use Rattle.vir_soc.specs.declared.told.Told.{Told}
+use Rattle.vir_soc.specs.declared.stated.Stated.{Stated}
 use Rattle.vir_soc.specs.Checks.{◌>>=◌, at_line, fault_of, refuse}
 use Rattle.vir_soc.specs.Lines.{last_line, lines}
 use Rattle.vir_soc.specs.Names.{names_up_to}
 use Rattle.vir_soc.specs.Reader.Pieces.{Progress, Reading, after_text, after_texts, closed, ended, feeds, kinds_from, reads, unended}
-use Rattle.vir_soc.specs.Said.{Said}
-use Rattle.vir_soc.specs.Soc.{agrees, settled, settled_said, soc, whole}
+use Rattle.vir_soc.specs.Content.{Content}
+use Rattle.vir_soc.specs.Soc.{agrees, settled, settled_content, soc, complete_file}
 use Rattle.vir_soc.specs.declared.soc_reader.TheConstants.{SIZE_LIMIT}
 use Rattle.vir_soc.specs.Reader.Stands.{standing}
 use Rattle.vir_soc.proofs.CutLemmas.{length-lines}
@@ -42,57 +42,57 @@ IsLate n f = (n ≤ f.line) ⊎ ((f.kind ≡ kinds.VotersDiffer) ⊎ (f.kind ≡
 here : {A : Type 0} (n : ℕ) (r : Result A SocKind) (f : SocFault) → at_line n r ≡ Err f → IsLate n f
 here n r f h = let e = line_is n r f h in inl (omega arith)
 
-kind_is : (told : Option Told) (n : ℕ) (kind : SocKind) (f : SocFault) → agrees told n kind ≡ Err f → f.kind ≡ kind
+kind_is : (stated : Option Stated) (n : ℕ) (kind : SocKind) (f : SocFault) → agrees stated n kind ≡ Err f → f.kind ≡ kind
 kind_is None n kind f h = absurd cc
-kind_is (Some told) n kind f h = of (nat_eq told.value n) h where
-  of : (b : Bool) → at_line told.line (refuse (not b) kind) ≡ Err f → f.kind ≡ kind
+kind_is (Some stated) n kind f h = of (nat_eq stated.value n) h where
+  of : (b : Bool) → at_line stated.line (refuse (not b) kind) ≡ Err f → f.kind ≡ kind
   of true e = absurd cc
   of false e =
-      let first : SocFault = record { line = told.line; kind = kind } in
+      let first : SocFault = record { line = stated.line; kind = kind } in
       let is : first ≡ f = cc in
       ap (λ (g : SocFault). g.kind) (sym is)
 
-whole_late : (said : Said) (last : ℕ) (f : SocFault) → whole said last ≡ Err f → IsLate last f
-unfolding whole
-whole_late said last f h =
-    let put : ℕ → Result File SocFault = λ m. Ok (record { profile = record { alternatives = m; lines = said.votes }; names = names_up_to m said.names }) in
-    let orders : ℕ → Result File SocFault = λ m. agrees said.orders (length said.votes) kinds.OrdersDiffer >>= λ _. put m in
-    let voters : ℕ → Result File SocFault = λ m. agrees said.voters (total_weight said.votes) kinds.VotersDiffer >>= λ _. orders m in
-    elim (stopped (at_line last (ok_or said.alternatives kinds.NoAlternativeCount)) voters f h) [
-      | first e ↦ here last (ok_or said.alternatives kinds.NoAlternativeCount) f e
-      | later m _ g ↦ elim (stopped (agrees said.voters (total_weight said.votes) kinds.VotersDiffer) (λ _. orders m) f g) [
-        | first e ↦ inr (inl (kind_is said.voters (total_weight said.votes) kinds.VotersDiffer f e))
-        | later _ _ k ↦ elim (stopped (agrees said.orders (length said.votes) kinds.OrdersDiffer) (λ _. put m) f k) [
-          | first e ↦ inr (inr (kind_is said.orders (length said.votes) kinds.OrdersDiffer f e))
+complete_file_late : (content : Content) (last : ℕ) (f : SocFault) → complete_file content last ≡ Err f → IsLate last f
+unfolding complete_file
+complete_file_late content last f h =
+    let put : ℕ → Result File SocFault = λ m. Ok (record { profile = record { alternatives = m; lines = content.votes }; names = names_up_to m content.names }) in
+    let orders : ℕ → Result File SocFault = λ m. agrees content.orders (length content.votes) kinds.OrdersDiffer >>= λ _. put m in
+    let voters : ℕ → Result File SocFault = λ m. agrees content.voters (total_weight content.votes) kinds.VotersDiffer >>= λ _. orders m in
+    elim (stopped (at_line last (ok_or content.alternatives kinds.NoAlternativeCount)) voters f h) [
+      | first e ↦ here last (ok_or content.alternatives kinds.NoAlternativeCount) f e
+      | later m _ g ↦ elim (stopped (agrees content.voters (total_weight content.votes) kinds.VotersDiffer) (λ _. orders m) f g) [
+        | first e ↦ inr (inl (kind_is content.voters (total_weight content.votes) kinds.VotersDiffer f e))
+        | later _ _ k ↦ elim (stopped (agrees content.orders (length content.votes) kinds.OrdersDiffer) (λ _. put m) f k) [
+          | first e ↦ inr (inr (kind_is content.orders (length content.votes) kinds.OrdersDiffer f e))
           | later _ _ l ↦ absurd cc
         ]
       ]
     ]
 
-closed_late : (said : Said) (last : ℕ) (text : List ℕ) (f : SocFault) → closed said last text ≡ Err f → IsLate last f
-closed_late said last text f h =
-    elim (stopped (at_line last (after_text said last text)) (λ s. whole s last) f h) [
-      | first e ↦ here last (after_text said last text) f e
-      | later s _ g ↦ whole_late s last f g
+closed_late : (content : Content) (last : ℕ) (text : List ℕ) (f : SocFault) → closed content last text ≡ Err f → IsLate last f
+closed_late content last text f h =
+    elim (stopped (at_line last (after_text content last text)) (λ s. complete_file s last) f h) [
+      | first e ↦ here last (after_text content last text) f e
+      | later s _ g ↦ complete_file_late s last f g
     ]
 
 -- ---- further bytes
 
-abbrev gone_on : Progress → List ℕ → Said → Result Progress SocFault
-gone_on p bytes said = Ok (record { said = said; line = p.line + length (ended p.begun bytes); begun = unended p.begun bytes })
+abbrev gone_on : Progress → List ℕ → Content → Result Progress SocFault
+gone_on p bytes content = Ok (record { content = content; line = p.line + length (ended p.begun bytes); begun = unended p.begun bytes })
 
 reads_late : (p : Progress) (bytes : List ℕ) (f : SocFault) → reads p bytes ≡ Err f → p.line ≤ f.line
 reads_late p bytes f h =
-    elim (stopped (after_texts p.said p.line (ended p.begun bytes)) (gone_on p bytes) f h) [
-      | first e ↦ (fault_within p.said p.line (kinds_from p.line (ended p.begun bytes)) f e).0
+    elim (stopped (after_texts p.content p.line (ended p.begun bytes)) (gone_on p bytes) f h) [
+      | first e ↦ (fault_within p.content p.line (kinds_from p.line (ended p.begun bytes)) f e).0
       | later _ _ g ↦ absurd cc
     ]
 
 reads_on : (p q : Progress) (bytes : List ℕ) → reads p bytes ≡ Ok q → p.line ≤ q.line
-reads_on p q bytes h = of (after_texts p.said p.line (ended p.begun bytes)) h where
-  of : (r : Result Said SocFault) → (r >>= gone_on p bytes) ≡ Ok q → p.line ≤ q.line
+reads_on p q bytes h = of (after_texts p.content p.line (ended p.begun bytes)) h where
+  of : (r : Result Content SocFault) → (r >>= gone_on p bytes) ≡ Ok q → p.line ≤ q.line
   of (Ok s) e =
-      let next : Progress = record { said = s; line = p.line + length (ended p.begun bytes); begun = unended p.begun bytes } in
+      let next : Progress = record { content = s; line = p.line + length (ended p.begun bytes); begun = unended p.begun bytes } in
       let is : next ≡ q = cc in
       let l = ap (λ (z : Progress). z.line) is in
       omega arith
@@ -128,14 +128,14 @@ more_lines front back =
 behind : (front back : List ℕ) (f : SocFault) → settled front ≡ None → soc (front ++ back) ≡ Err f → IsLate (length (lines front)) f
 behind front back f none h =
     let all = front ++ back in
-    elim (stopped (settled_said all) (λ said. closed said (length (lines all)) (last_line all)) f (sym (soc_is all) ∙ h)) [
-      | first e ↦ inl (by_pieces (settled_said front) none refl e)
-      | later said _ g ↦ later_still (closed_late said (length (lines all)) (last_line all) f g)
+    elim (stopped (settled_content all) (λ content. closed content (length (lines all)) (last_line all)) f (sym (soc_is all) ∙ h)) [
+      | first e ↦ inl (by_pieces (settled_content front) none refl e)
+      | later content _ g ↦ later_still (closed_late content (length (lines all)) (last_line all) f g)
     ] where
-      by_pieces : (r : Result Said SocFault) → fault_of r ≡ None → settled_said front ≡ r → settled_said (front ++ back) ≡ Err f → length (lines front) ≤ f.line
+      by_pieces : (r : Result Content SocFault) → fault_of r ≡ None → settled_content front ≡ r → settled_content (front ++ back) ≡ Err f → length (lines front) ≤ f.line
       by_pieces (Err g) n s e = absurd cc
-      by_pieces (Ok said) n s e =
-          let r : Reading = record { progress = record { said = said; line = length (lines front); begun = last_line front }; size = length front } in
+      by_pieces (Ok content) n s e =
+          let r : Reading = record { progress = record { content = content; line = length (lines front); begun = last_line front }; size = length front } in
           let at : standing front ≡ Ok r = rw s refl in
           let failed : standing (front ++ back) ≡ Err f = rw e refl in
           feeds_late r back f (sym (standing_append front back ∙ ap (λ x. x >>= λ q. feeds q back) at) ∙ failed)

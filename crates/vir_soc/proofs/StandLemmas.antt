@@ -10,8 +10,8 @@ use Rattle.vir_soc.specs.declared.kind.SocKind.TheVariants.{FileTooLong}
 use Rattle.vir_soc.specs.Reader.Answers.{Fails, Shows, fault_in}
 use Rattle.vir_soc.specs.Checks.{◌>>=◌, at_line, fault_of}
 use Rattle.vir_soc.specs.Lines.{lines, last_line}
-use Rattle.vir_soc.specs.Said.{Said, nothing}
-use Rattle.vir_soc.specs.Soc.{after_lines, ended_said, settled, settled_said, soc, whole}
+use Rattle.vir_soc.specs.Content.{Content, nothing}
+use Rattle.vir_soc.specs.Soc.{after_lines, ended_content, settled, settled_content, soc, complete_file}
 use Rattle.vir_soc.specs.declared.soc_reader.TheConstants.{SIZE_LIMIT}
 use Rattle.vir_soc.specs.Reader.Pieces.{after_text, after_texts, closed, ended, kinds_from, unended, feeds, Reading}
 use Rattle.vir_soc.specs.Reader.Stands.{kept, standing, stands}
@@ -25,25 +25,25 @@ stands_start = ap kept standing_start
 
 -- ---- the whole file as its ended lines, and the last one
 
-last_step : (said : Said) (n : ℕ) (text : List ℕ) → (after_texts said n (text ∷ []) >>= λ s. whole s n) ≡ closed said n text
+last_step : (content : Content) (n : ℕ) (text : List ℕ) → (after_texts content n (text ∷ []) >>= λ s. complete_file s n) ≡ closed content n text
 unfolding after_lines after_text kinds_from
-last_step said n text = elim (at_line n (after_text said n text)) as (λ r. ((r >>= λ s. Ok s) >>= λ s. whole s n) ≡ (r >>= λ s. whole s n)) [ Ok s ↦ refl | Err f ↦ refl ]
+last_step content n text = elim (at_line n (after_text content n text)) as (λ r. ((r >>= λ s. Ok s) >>= λ s. complete_file s n) ≡ (r >>= λ s. complete_file s n)) [ Ok s ↦ refl | Err f ↦ refl ]
 
-then_last : (r : Result Said SocFault) (n : ℕ) (text : List ℕ) → ((r >>= λ s. after_texts s n (text ∷ [])) >>= λ s. whole s n) ≡ (r >>= λ s. closed s n text)
+then_last : (r : Result Content SocFault) (n : ℕ) (text : List ℕ) → ((r >>= λ s. after_texts s n (text ∷ [])) >>= λ s. complete_file s n) ≡ (r >>= λ s. closed s n text)
 then_last (Ok s) n text = last_step s n text
 then_last (Err f) n text = refl
 
-too_long_anyway : (r : Result Said SocFault) (line : ℕ) (f : Said → Result File SocFault) → (r >>= λ _. at_line {A = File} line (Err FileTooLong)) ≡ ((r >>= λ _. at_line {A = Said} line (Err FileTooLong)) >>= f)
+too_long_anyway : (r : Result Content SocFault) (line : ℕ) (f : Content → Result File SocFault) → (r >>= λ _. at_line {A = File} line (Err FileTooLong)) ≡ ((r >>= λ _. at_line {A = Content} line (Err FileTooLong)) >>= f)
 too_long_anyway (Ok s) line f = refl
 too_long_anyway (Err e) line f = refl
 
-pub soc_is : (bytes : List ℕ) → soc bytes ≡ (settled_said bytes >>= λ said. closed said (length (lines bytes)) (last_line bytes))
+pub soc_is : (bytes : List ℕ) → soc bytes ≡ (settled_content bytes >>= λ content. closed content (length (lines bytes)) (last_line bytes))
 soc_is bytes =
     elim (cases_lt SIZE_LIMIT (length bytes)) [
       | inl lt ↦ (
           let s : nat_le (length bytes) SIZE_LIMIT ≡ false = grind (arith, nat_tests) in
           let w = take SIZE_LIMIT bytes in
-          rw s (too_long_anyway (ended_said w) (length (lines w)) (λ said. closed said (length (lines bytes)) (last_line bytes))))
+          rw s (too_long_anyway (ended_content w) (length (lines w)) (λ content. closed content (length (lines bytes)) (last_line bytes))))
       | inr le ↦ (
           let s : nat_le (length bytes) SIZE_LIMIT ≡ true = grind (arith, nat_tests) in
           let e = ended [] bytes in
@@ -61,17 +61,17 @@ was_err : (r : Result Reading SocFault) (stop : SocError) → kept r ≡ Err sto
 was_err (Ok x) stop e = absurd cc
 was_err (Err f) stop e = (f, refl, cc)
 
-abbrev put : ℕ → List ℕ → ℕ → Said → Result Reading SocFault
-put line begun size said = Ok (record { progress = record { said = said; line = line; begun = begun }; size = size })
+abbrev put : ℕ → List ℕ → ℕ → Content → Result Reading SocFault
+put line begun size content = Ok (record { progress = record { content = content; line = line; begun = begun }; size = size })
 
-closed_at : (x : Result Said SocFault) (line : ℕ) (begun : List ℕ) (size : ℕ) (r : Reading) → (x >>= put line begun size) ≡ Ok r → (x >>= λ said. closed said line begun) ≡ closed r.progress.said r.progress.line r.progress.begun
+closed_at : (x : Result Content SocFault) (line : ℕ) (begun : List ℕ) (size : ℕ) (r : Reading) → (x >>= put line begun size) ≡ Ok r → (x >>= λ content. closed content line begun) ≡ closed r.progress.content r.progress.line r.progress.begun
 closed_at (Ok s) line begun size r e =
-    let first : Reading = record { progress = record { said = s; line = line; begun = begun }; size = size } in
+    let first : Reading = record { progress = record { content = s; line = line; begun = begun }; size = size } in
     let q : first ≡ r = cc in
-    ap (λ (z : Reading). closed z.progress.said z.progress.line z.progress.begun) q
+    ap (λ (z : Reading). closed z.progress.content z.progress.line z.progress.begun) q
 closed_at (Err f) line begun size r e = absurd cc
 
-refused_at : (x : Result Said SocFault) (line : ℕ) (begun : List ℕ) (size : ℕ) (f : SocFault) → (x >>= put line begun size) ≡ Err f → (x >>= λ said. closed said line begun) ≡ Err f
+refused_at : (x : Result Content SocFault) (line : ℕ) (begun : List ℕ) (size : ℕ) (f : SocFault) → (x >>= put line begun size) ≡ Err f → (x >>= λ content. closed content line begun) ≡ Err f
 refused_at (Ok s) line begun size f e = absurd cc
 refused_at (Err g) line begun size f e = cc
 
@@ -98,14 +98,14 @@ module _ (v : Result Reading SocError) (bytes : List ℕ) (s : v ≡ stands byte
         let w = was_err (standing bytes) stop (sym s ∙ e) in
         rw w.2 (settled_is (bytes ++ piece) ∙ ap fault_of (standing_append bytes piece ∙ ap (λ x. x >>= λ q. feeds q piece) w.1))
 
-  pub closes : (r : Reading) → v ≡ Ok r → soc bytes ≡ closed r.progress.said r.progress.line r.progress.begun
-  closes r e = soc_is bytes ∙ closed_at (settled_said bytes) (length (lines bytes)) (last_line bytes) (length bytes) r (stood r e)
+  pub closes : (r : Reading) → v ≡ Ok r → soc bytes ≡ closed r.progress.content r.progress.line r.progress.begun
+  closes r e = soc_is bytes ∙ closed_at (settled_content bytes) (length (lines bytes)) (last_line bytes) (length bytes) r (stood r e)
 
   pub refuses : (stop : SocError) → v ≡ Err stop → Fails (fault_in stop) (soc bytes)
   unfolding stands
   refuses stop e =
       let w = was_err (standing bytes) stop (sym s ∙ e) in
-      rw w.2 (soc_is bytes ∙ refused_at (settled_said bytes) (length (lines bytes)) (last_line bytes) (length bytes) w.0 w.1)
+      rw w.2 (soc_is bytes ∙ refused_at (settled_content bytes) (length (lines bytes)) (last_line bytes) (length bytes) w.0 w.1)
 
 -- ---- what is settled stays
 
@@ -118,4 +118,4 @@ stays bytes more f s = standing_append bytes more ∙ ap (λ x. x >>= λ q. feed
 pub fault_stays : (bytes more : List ℕ) (f : SocFault) → settled bytes ≡ Some f → soc (bytes ++ more) ≡ Err f
 fault_stays bytes more f s =
     let all = bytes ++ more in
-    soc_is all ∙ refused_at (settled_said all) (length (lines all)) (last_line all) (length all) f (stays bytes more f s)
+    soc_is all ∙ refused_at (settled_content all) (length (lines all)) (last_line all) (length all) f (stays bytes more f s)

@@ -64,27 +64,27 @@ module _ (m x : ℕ) (few : m ≤ limit) (some : 1 ≤ x) (known : x ≤ m) wher
 pub record Begins (m x : ℕ) (text after : List ℕ) : Type 0 where
   pub part : List ℕ
   pub names : Names m x part
-  pub whole : text ≡ part ++ after
+  pub parts : text ≡ part ++ after
 
 pub begins : (m x : ℕ) (text unspaced after : List ℕ) → m ≤ limit → 1 ≤ x → x ≤ m → (text ≡ 32 ∷ unspaced) ⊎ (text ≡ unspaced) → unspaced ≡ decimal x ++ after → Begins m x text after
-begins m x text unspaced after few some known (inl spaced) digits = record { part = 32 ∷ decimal x; names = Names-spaced m x few some known; whole = spaced ∙ ap (λ t. 32 ∷ t) digits }
-begins m x text unspaced after few some known (inr same) digits = record { part = decimal x; names = Names-decimal m x few some known; whole = same ∙ digits }
+begins m x text unspaced after few some known (inl spaced) digits = record { part = 32 ∷ decimal x; names = Names-spaced m x few some known; parts = spaced ∙ ap (λ t. 32 ∷ t) digits }
+begins m x text unspaced after few some known (inr same) digits = record { part = decimal x; names = Names-decimal m x few some known; parts = same ∙ digits }
 
 module _ (m x : ℕ) (text after : List ℕ) (b : Begins m x text after) where
   pub no_brace_last : after ≡ [] → list_any is_brace text ≡ false
-  no_brace_last e = ap (list_any is_brace) b.whole ∙ list_any-append is_brace b.part after ∙ rw (b.names.no_brace, e) refl
+  no_brace_last e = ap (list_any is_brace) b.parts ∙ list_any-append is_brace b.part after ∙ rw (b.names.no_brace, e) refl
 
   pub brace_later : (next : List ℕ) → after ≡ 44 ∷ next → list_any is_brace text ≡ list_any is_brace next
-  brace_later next e = ap (list_any is_brace) b.whole ∙ list_any-append is_brace b.part after ∙ rw (b.names.no_brace, e) refl
+  brace_later next e = ap (list_any is_brace) b.parts ∙ list_any-append is_brace b.part after ∙ rw (b.names.no_brace, e) refl
 
   module _ (order : List ℕ) (once : list_any (λ y. nat_eq y x) order ≡ false) where
     pub order_after-last : after ≡ [] → order_after m order (slice_split is_comma text) ≡ Ok (order ++ x ∷ [])
     unfolding order_after
-    order_after-last e = rw (b.whole, e, append-nil b.part, slice_split_none is_comma b.part b.names.no_comma, b.names.read, once) refl
+    order_after-last e = rw (b.parts, e, append-nil b.part, slice_split_none is_comma b.part b.names.no_comma, b.names.read, once) refl
 
     pub order_after-next : (next : List ℕ) → after ≡ 44 ∷ next → order_after m order (slice_split is_comma text) ≡ order_after m (order ++ x ∷ []) (slice_split is_comma next)
     unfolding order_after
-    order_after-next next e = rw (b.whole, e, slice_split_at is_comma b.part 44 next b.names.no_comma refl, b.names.read, once) refl
+    order_after-next next e = rw (b.parts, e, slice_split_at is_comma b.part 44 next b.names.no_comma refl, b.names.read, once) refl
 
 pub empty_is : (xs : List ℕ) → true ≡ nat_eq (length xs) 0 → xs ≡ []
 empty_is [] h = refl
@@ -95,8 +95,8 @@ some_inside [] h = absurd cc
 some_inside (x ∷ xs) h = omega arith
 
 -- an order of so many alternatives, none of which is at fault
-pub order_fault-whole : (m : ℕ) (order : List ℕ) → member_fault_after m [] order ≡ None → m ≤ length order → order_fault m order ≡ None
-order_fault-whole m order sound l =
+pub order_fault-complete : (m : ℕ) (order : List ℕ) → member_fault_after m [] order ≡ None → m ≤ length order → order_fault m order ≡ None
+order_fault-complete m order sound l =
     let t : nat_lt (length order) m ≡ false = grind (arith, nat_tests) in
     rw (sound, t) refl
 

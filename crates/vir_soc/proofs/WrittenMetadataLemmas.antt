@@ -13,7 +13,7 @@ use Rattle.vir_soc.specs.Keys.{key_of}
 use Rattle.vir_soc.specs.LineKinds.{LineKind, is_colon, metadata, text_kind}
 use Rattle.vir_soc.specs.Lines.{trim}
 use Rattle.vir_soc.specs.Names.{names_up_to, with_name}
-use Rattle.vir_soc.specs.Said.{Said}
+use Rattle.vir_soc.specs.Content.{Content}
 use Rattle.vir_soc.specs.Soc.{after_line, after_lines}
 use Rattle.vir_soc.proofs.CleanLemmas.{IsClean, IsClean-append, IsClean-decimal, IsClean-name, after_colon, before_colon, colon_inside, last-append, trim-clean, trim-spaced}
 use Rattle.vir_soc.proofs.DigitLemmas.{colon_fails, line_feed_fails, list_any-decimal, number-decimal}
@@ -69,21 +69,21 @@ voters_kind v h = count_kind (codes "NUMBER VOTERS") v h refl (record { some = o
 pub orders_kind : (v : ℕ) → v < 2 ^ 64 → text_kind (trim (metadata_line (codes "NUMBER UNIQUE ORDERS") (decimal v))) ≡ metadata Orders (decimal v)
 orders_kind v h = count_kind (codes "NUMBER UNIQUE ORDERS") v h refl (record { some = omega arith; front = refl; back = refl })
 
-pub alternatives_read : (said : Said) (n m : ℕ) → 1 ≤ m → m ≤ limit → said.alternatives ≡ None → after_line said n (metadata Alternatives (decimal m)) ≡ Ok (record said { alternatives = Some m })
-alternatives_read said n m some few new =
+pub alternatives_read : (content : Content) (n m : ℕ) → 1 ≤ m → m ≤ limit → content.alternatives ≡ None → after_line content n (metadata Alternatives (decimal m)) ≡ Ok (record content { alternatives = Some m })
+alternatives_read content n m some few new =
     let z : nat_eq m 0 ≡ false = grind (arith, nat_tests) in
     let t = le-ltb limit m few in
     let b : m < 2 ^ 64 = omega arith in
     rw (number-decimal m b, z, t, new) refl
 
-pub voters_read : (said : Said) (n v : ℕ) → v ≤ voters_limit → said.voters ≡ None → after_line said n (metadata Voters (decimal v)) ≡ Ok (record said { voters = Some (record { value = v; line = n }) })
-voters_read said n v fits new =
+pub voters_read : (content : Content) (n v : ℕ) → v ≤ voters_limit → content.voters ≡ None → after_line content n (metadata Voters (decimal v)) ≡ Ok (record content { voters = Some (record { value = v; line = n }) })
+voters_read content n v fits new =
     let t = le-ltb voters_limit v fits in
     let b : v < 2 ^ 64 = omega arith in
     rw (number-decimal v b, t, new) refl
 
-pub orders_read : (said : Said) (n v : ℕ) → v ≤ voters_limit → said.orders ≡ None → after_line said n (metadata Orders (decimal v)) ≡ Ok (record said { orders = Some (record { value = v; line = n }) })
-orders_read said n v fits new =
+pub orders_read : (content : Content) (n v : ℕ) → v ≤ voters_limit → content.orders ≡ None → after_line content n (metadata Orders (decimal v)) ≡ Ok (record content { orders = Some (record { value = v; line = n }) })
+orders_read content n v fits new =
     let t = le-ltb voters_limit v fits in
     let b : v < 2 ^ 64 = omega arith in
     rw (number-decimal v b, t, new) refl
@@ -160,13 +160,13 @@ name_kinds m low (n ∷ ns) few h =
     rw (name_kind n.number (omega arith) (omega arith) n.text h.2, name_kinds m n.number ns few h.3) refl
 
 -- names in ascending order are read one behind the other
-pub names_read : (m low : ℕ) (said : Said) (n : ℕ) (names : List Name) → AreUpTo low said.names → AreNamesAbove low m names → after_lines said n (map kind_of_name names) ≡ Ok (record said { names = said.names ++ given_of names })
+pub names_read : (m low : ℕ) (content : Content) (n : ℕ) (names : List Name) → AreUpTo low content.names → AreNamesAbove low m names → after_lines content n (map kind_of_name names) ≡ Ok (record content { names = content.names ++ given_of names })
 unfolding after_lines
-names_read m low said n [] before h = ap (λ ns. Ok (record said { names = ns })) (sym (append-nil said.names))
-names_read m low said n (name ∷ names) before h =
+names_read m low content n [] before h = ap (λ ns. Ok (record content { names = ns })) (sym (append-nil content.names))
+names_read m low content n (name ∷ names) before h =
     let first = h.0 in
-    let next : Said = record said { names = said.names ++ (name.number, name.text) ∷ [] } in
-    rw (with_name-last low said.names name.number name.text before first) (names_read m name.number next (n + 1) names (AreUpTo-push low name.number said.names name.number name.text before (omega arith) (omega arith)) h.3 ∙ ap (λ ns. Ok (record said { names = ns })) (append_assoc said.names ((name.number, name.text) ∷ []) (given_of names)))
+    let next : Content = record content { names = content.names ++ (name.number, name.text) ∷ [] } in
+    rw (with_name-last low content.names name.number name.text before first) (names_read m name.number next (n + 1) names (AreUpTo-push low name.number content.names name.number name.text before (omega arith) (omega arith)) h.3 ∙ ap (λ ns. Ok (record content { names = ns })) (append_assoc content.names ((name.number, name.text) ∷ []) (given_of names)))
 
 -- each of them is a name, and of no number above m
 pub names_up_to-all : (m low : ℕ) (names : List Name) → AreNamesAbove low m names → names_up_to m (given_of names) ≡ names

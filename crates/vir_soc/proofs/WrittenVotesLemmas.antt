@@ -19,7 +19,7 @@ use Rattle.vir_profile.specs.declared.refused.AddFault.TheVariants as faults
 use Rattle.vir_soc.specs.Lines.{trim}
 use Rattle.vir_soc.specs.LineKinds.{ballots, is_colon, is_hash, text_kind}
 use Rattle.vir_soc.specs.Numbers.{number}
-use Rattle.vir_soc.specs.Said.{Said}
+use Rattle.vir_soc.specs.Content.{Content}
 use Rattle.vir_soc.specs.Soc.{after_line}
 use Rattle.vir_soc.specs.SocText.{order_text}
 use Rattle.vir_soc.specs.Votes.{alternative, is_brace, is_comma, order_after, with_votes}
@@ -177,6 +177,6 @@ module _ (m : ℕ) (entry : Entry) (h : IsLine m entry) where
       let z : nat_eq (length (votes_line entry)) 0 ≡ false = grind (arith, nat_tests) in
       ap text_kind (trim-clean (votes_line entry) clean) ∙ rw (z, votes_line-hash) refl
 
-  -- what is said after the line
-  pub votes_line-read : (said : Said) (n : ℕ) → said.alternatives ≡ Some m → length said.votes < LINES_LIMIT → total_weight said.votes + entry.weight ≤ voters_limit → after_line said n (ballots (votes_line entry)) ≡ Ok (record said { votes = said.votes ++ entry ∷ [] })
-  votes_line-read said n known few fits = rw (known, with_votes-line said.votes few fits) refl
+  -- the content after the line
+  pub votes_line-read : (content : Content) (n : ℕ) → content.alternatives ≡ Some m → length content.votes < LINES_LIMIT → total_weight content.votes + entry.weight ≤ voters_limit → after_line content n (ballots (votes_line entry)) ≡ Ok (record content { votes = content.votes ++ entry ∷ [] })
+  votes_line-read content n known few fits = rw (known, with_votes-line content.votes few fits) refl

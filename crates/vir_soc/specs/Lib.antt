@@ -6,7 +6,7 @@ pub mod Numbers
 pub mod Keys
 pub mod LineKinds
 pub mod Names
-pub mod Said
+pub mod Content
 pub mod Metadata
 pub mod Votes
 pub mod Soc

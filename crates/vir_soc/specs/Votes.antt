@@ -1,4 +1,4 @@
--- What is said after a line of votes.
+-- The content after a line of votes.
 use Rattle.std.specs.Prelude.{ℕ, ◌+◌, ◌||◌, Bool, not, List, [], ◌∷◌, ◌++◌, length, Result, Ok, nat_le, nat_lt, nat_eq}
 use Rattle.std.specs.List.{list_any, slice_split, before_first, after_first}
 use Rattle.std.specs.Option.{ok_or}
@@ -11,7 +11,7 @@ use Rattle.vir_soc.specs.Checks.{◌>>=◌, refuse}
 use Rattle.vir_soc.specs.Lines.{trim}
 use Rattle.vir_soc.specs.LineKinds.{is_colon}
 use Rattle.vir_soc.specs.Numbers.{number}
-use Rattle.vir_soc.specs.Said.{Said}
+use Rattle.vir_soc.specs.Content.{Content}
 
 abbrev pub is_comma : ℕ → Bool
 is_comma c = nat_eq c 44
@@ -53,9 +53,9 @@ with_votes m votes text = do
   order ← order_after m [] (slice_split is_comma rest)
   with_order m votes count order
 
--- what is said after a line of votes
-abbrev pub after_votes : Said → List ℕ → Result Said SocKind
-after_votes said text = do
-  m ← ok_or said.alternatives NoAlternativeCount
-  votes ← with_votes m said.votes text
-  Ok (record said { votes = votes })
+-- the content after a line of votes
+abbrev pub after_votes : Content → List ℕ → Result Content SocKind
+after_votes content text = do
+  m ← ok_or content.alternatives NoAlternativeCount
+  votes ← with_votes m content.votes text
+  Ok (record content { votes = votes })

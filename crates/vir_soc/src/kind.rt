@@ -6,7 +6,7 @@ ghost use Rattle.vir_soc.specs.Kinds.{kind_name};
 pub enum SocKind {
     /// A metadata line whose value must be a number has none, or one out of its range.
     BadNumber,
-    /// No metadata line has told the number of alternatives.
+    /// No metadata line has stated the number of alternatives.
     NoAlternativeCount,
     /// There are more alternatives than this program takes.
     TooManyAlternatives,
@@ -30,13 +30,13 @@ pub enum SocKind {
     TooManyOrders,
     /// There are more voters than 2^64 - 1.
     TooManyVoters,
-    /// The number of voters that metadata tells is not the sum of the counts.
+    /// The number of voters that metadata states is not the sum of the counts.
     VotersDiffer,
-    /// The number of orders that metadata tells is not the number of lines of votes.
+    /// The number of orders that metadata states is not the number of lines of votes.
     OrdersDiffer,
     /// The file has more bytes than this program takes.
     FileTooLong,
-    /// Two metadata lines tell different numbers of the same thing.
+    /// Two metadata lines state different numbers of the same thing.
     CountDiffers,
 }
 

@@ -27,12 +27,12 @@ pub fn names_are_the_last_given()
         → name_of i file.names ≡ (if nat_le i file.profile.alternatives then last_name i bytes else None) }
 {}
 
-/// What the metadata of an accepted file tells of its kind and its counts is true of its profile: of
-/// the alternatives, of the voters and of the orders, on each line that tells it.
+/// What the metadata of an accepted file states of its kind and its counts is true of its profile: of
+/// the alternatives, of the voters and of the orders, on each line that states it.
 pub fn metadata_is_true()
     ensures { (bytes : List ℕ) (file : File)
         → soc bytes ≡ Ok file
-        → All (λ told. IsTrueOf file.profile told.key told.value) (metadata_lines bytes) }
+        → All (λ stated. IsTrueOf file.profile stated.key stated.value) (metadata_lines bytes) }
 {}
 
 /// No line before that of a file's fault has a fault: the bytes of a file settle none as long as they
@@ -44,7 +44,7 @@ pub fn no_line_before_has_a_fault()
         → settled front ≡ None }
 {}
 
-/// A fault is settled with its line: by all bytes that end the line, but for a difference of a told
+/// A fault is settled with its line: by all bytes that end the line, but for a difference of a stated
 /// count, which the end of the file alone can show.
 pub fn fault_is_settled_with_its_line()
     ensures { (front back : List ℕ) (fault : SocFault)

@@ -11,6 +11,7 @@
 #![tactic(auto)]
 
 mod bytes;
+mod draft;
 mod fault;
 mod key;
 mod kind;
@@ -19,10 +20,9 @@ mod line;
 mod line_reader;
 mod metadata;
 mod names;
-mod sayings;
 mod soc_reader;
+mod stated;
 mod stop;
-mod told;
 mod usual;
 mod votes;
 mod write;

@@ -6,9 +6,9 @@ ghost use Rattle.vir_soc.specs.Reader.Pieces as rules;
 ghost use Rattle.vir_soc.specs.Reader.Views.{progress_of};
 
 use crate::bytes::cut;
+use crate::draft::Draft;
 use crate::fault::{SocError, SocFault};
 use crate::line::after_line;
-use crate::sayings::Sayings;
 use crate::stop::Stop;
 use std::alloc::{AllocError, Global};
 use std::marker::Model;
@@ -70,10 +70,10 @@ impl Begun {
     }
 }
 
-/// What the ended lines say, and the line that has begun.
+/// The content of the ended lines, and the line that has begun.
 #[derive(Drop)]
 pub struct LineReader {
-    pub said: Sayings,
+    pub draft: Draft,
     /// The number of the line that has begun.
     pub line: u64,
     pub begun: Begun,
@@ -89,10 +89,10 @@ fn end_line(alloc: Global, reader: &mut LineReader, end: &[u8]) -> Result<(), So
 {
     let line = reader.line;
     let taken = if reader.begun.is_empty() {
-        after_line(alloc, &mut reader.said, line, end)
+        after_line(alloc, &mut reader.draft, line, end)
     } else {
         reader.begun.extend(end)?;
-        after_line(alloc, &mut reader.said, line, reader.begun.bytes())
+        after_line(alloc, &mut reader.draft, line, reader.begun.bytes())
     };
     match taken {
         Ok(()) => {}

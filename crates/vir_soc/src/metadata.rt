@@ -10,15 +10,15 @@ ghost use Rattle.vir_soc.specs.Soc.{after_line};
 ghost use Rattle.vir_soc.specs.Reader.Answers.{Gives, kind_in};
 ghost use Rattle.vir_soc.specs.Reader.Given.{MayBeName};
 ghost use Rattle.vir_soc.specs.Reader.Steps.{IsKey};
-ghost use Rattle.vir_soc.specs.Reader.Views.{said_of};
+ghost use Rattle.vir_soc.specs.Reader.Views.{content_of};
 
 use crate::bytes::{cut, number, trim};
+use crate::draft::{Draft, take_alternatives};
 use crate::key::Key;
 use crate::kind::SocKind;
 use crate::names::Names;
-use crate::sayings::{Sayings, take_alternatives};
+use crate::stated::number_stated;
 use crate::stop::Stop;
-use crate::told::number_told;
 use std::alloc::Global;
 use vir_profile::{LIMIT, NameText};
 
@@ -78,15 +78,15 @@ fn take_name(alloc: Global, names: &mut Names, number: u16, text: &[u8]) -> Resu
 /// Takes a key with its value.
 fn after_key(
     alloc: Global,
-    said: &mut Sayings,
+    draft: &mut Draft,
     line: u64,
     key: Key,
     value: &[u8],
 ) -> Result<(), Stop>
     requires key { IsKey key }
     requires value { MayBeName value.now }
-    ensures { Gives kind_in (λ _. said_of said.new) result
-        (after_key (said_of said.old) line key value.now) }
+    ensures { Gives kind_in (λ _. content_of draft.new) result
+        (after_key (content_of draft.old) line key value.now) }
 {
     match key {
         Key::DataType => if is_soc(value) {
@@ -95,31 +95,31 @@ fn after_key(
             Err(Stop::Kind(SocKind::WrongType))
         },
         Key::Alternatives => {
-            take_alternatives(alloc, &mut said.profile, value)?;
+            take_alternatives(alloc, &mut draft.profile, value)?;
             Ok(())
         }
         Key::Voters => {
-            said.voters = Some(number_told(said.voters, line, value)?);
+            draft.voters = Some(number_stated(draft.voters, line, value)?);
             Ok(())
         }
         Key::Orders => {
-            said.orders = Some(number_told(said.orders, line, value)?);
+            draft.orders = Some(number_stated(draft.orders, line, value)?);
             Ok(())
         }
-        Key::NameOf(number) => take_name(alloc, &mut said.names, number, value),
+        Key::NameOf(number) => take_name(alloc, &mut draft.names, number, value),
         Key::Other => Ok(()),
     }
 }
 
 /// Takes a metadata line, here without its hash.
-pub fn after_metadata(alloc: Global, said: &mut Sayings, line: u64, text: &[u8]) -> Result<(), Stop>
+pub fn after_metadata(alloc: Global, draft: &mut Draft, line: u64, text: &[u8]) -> Result<(), Stop>
     requires { list_any is_line_feed text.now ≡ false }
-    ensures { Gives kind_in (λ _. said_of said.new) result
-        (after_line (said_of said.old) line (hash_kind text.now)) }
+    ensures { Gives kind_in (λ _. content_of draft.new) result
+        (after_line (content_of draft.old) line (hash_kind text.now)) }
 {
     let (before, after) = cut(b':', text);
     match after {
-        Some(value) => after_key(alloc, said, line, key_of(trim(before)), trim(value)),
+        Some(value) => after_key(alloc, draft, line, key_of(trim(before)), trim(value)),
         None => Ok(()),
     }
 }

@@ -2,17 +2,17 @@ ghost use Rattle.std.specs.Prelude.{◌≡◌, ◌+◌, ◌++◌, ◌≤◌, [],
 ghost use Rattle.vir_soc.specs.declared.fault.SocError.{SocError};
 ghost use Rattle.vir_soc.specs.Reader.Answers.{Gives, Shows, fault_in};
 ghost use Rattle.vir_soc.specs.Reader.Pieces.{closed, feeds};
-ghost use Rattle.vir_soc.specs.Soc.{agrees, settled, soc, whole};
+ghost use Rattle.vir_soc.specs.Soc.{agrees, settled, soc, complete_file};
 ghost use Rattle.vir_soc.specs.Reader.Stands.{stands};
-ghost use Rattle.vir_soc.specs.Reader.Views.{reading_of, said_of};
+ghost use Rattle.vir_soc.specs.Reader.Views.{reading_of, content_of};
 
+use crate::draft::Draft;
 use crate::fault::{SocError, SocFault};
 use crate::kind::SocKind;
 use crate::line::after_line;
 use crate::line_reader::{Begun, LineReader, read};
-use crate::sayings::Sayings;
+use crate::stated::Stated;
 use crate::stop::Stop;
-use crate::told::Told;
 use std::alloc::Global;
 use std::marker::Model;
 use vir_profile::SocFile;
@@ -41,34 +41,34 @@ fn take(alloc: Global, reader: &mut LineReader, size: u64, piece: &[u8]) -> Resu
     }
 }
 
-/// Compares a number that metadata told with this one.
-fn agrees(told: Option<Told>, n: u64, kind: SocKind) -> Result<(), SocError>
-    ensures { Gives fault_in (λ unit. unit) result (agrees told n kind) }
+/// Compares a number that metadata stated with this one.
+fn agrees(stated: Option<Stated>, n: u64, kind: SocKind) -> Result<(), SocError>
+    ensures { Gives fault_in (λ unit. unit) result (agrees stated n kind) }
 {
-    match told {
+    match stated {
         None => Ok(()),
-        Some(told) => if told.value == n {
+        Some(stated) => if stated.value == n {
             Ok(())
         } else {
             Err(SocError::Fault(SocFault {
-                line: told.line,
+                line: stated.line,
                 kind,
             }))
         },
     }
 }
 
-/// The file of which all lines say this.
-#[tactic(auto, unfolding(crate::specs::Soc::whole))]
-fn whole(alloc: Global, said: Sayings, last: u64) -> Result<SocFile, SocError>
-    ensures { Gives fault_in (λ file. file) result (whole (said_of said) last) }
+/// The file of which this is the content of all lines.
+#[tactic(auto, unfolding(crate::specs::Soc::complete_file))]
+fn complete_file(alloc: Global, draft: Draft, last: u64) -> Result<SocFile, SocError>
+    ensures { Gives fault_in (λ file. file) result (complete_file (content_of draft) last) }
 {
-    let Sayings {
+    let Draft {
         profile,
         voters,
         orders,
         names,
-    } = said;
+    } = draft;
     let Some(profile) = profile else {
         return Err(SocError::Fault(SocFault {
             line: last,
@@ -82,16 +82,16 @@ fn whole(alloc: Global, said: Sayings, last: u64) -> Result<SocFile, SocError>
 }
 
 /// The file whose last line is this one.
-fn close(alloc: Global, said: Sayings, line: u64, last: &Begun) -> Result<SocFile, SocError>
-    ensures { Gives fault_in (λ file. file) result (closed (said_of said) line last.now) }
+fn close(alloc: Global, draft: Draft, line: u64, last: &Begun) -> Result<SocFile, SocError>
+    ensures { Gives fault_in (λ file. file) result (closed (content_of draft) line last.now) }
 {
-    let mut said = said;
-    match after_line(alloc, &mut said, line, last.bytes()) {
+    let mut draft = draft;
+    match after_line(alloc, &mut draft, line, last.bytes()) {
         Ok(()) => {}
         Err(Stop::Kind(kind)) => return Err(SocError::Fault(SocFault { line, kind })),
         Err(Stop::Memory) => return Err(SocError::Memory),
     }
-    whole(alloc, said, line)
+    complete_file(alloc, draft, line)
 }
 
 /// Reads a file in pieces, and keeps at most one unfinished line beside what the lines so far say.
@@ -129,7 +129,7 @@ impl SocReader {
         SocReader {
             alloc,
             reader: LineReader {
-                said: Sayings::new(alloc),
+                draft: Draft::new(alloc),
                 line: 1,
                 begun: Begun::new(alloc),
             },
@@ -184,7 +184,7 @@ impl SocReader {
             size: _,
             stopped: _,
         } = self;
-        let LineReader { said, line, begun } = reader;
-        close(alloc, said, line, &begun)
+        let LineReader { draft, line, begun } = reader;
+        close(alloc, draft, line, &begun)
     }
 }

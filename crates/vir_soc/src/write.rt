@@ -28,7 +28,7 @@ fn push_metadata(out: &mut Vec<u8>, key: &[u8], value: &[u8]) -> Result<(), Allo
     out.extend_from_slice(b"\n")
 }
 
-/// Appends a line of metadata that tells a number.
+/// Appends a line of metadata that states a number.
 fn push_count(out: &mut Vec<u8>, key: &[u8], n: u64) -> Result<(), AllocError>
     ensures { OnOk result (out.new.items ≡ out.old.items ++ metadata_text key.now (decimal n)) }
 {

@@ -12,8 +12,8 @@ use Rattle.vir_soc.specs.declared.fault.SocError.{SocError}
 use Rattle.vir_soc.specs.declared.fault.SocError.TheVariants.{Fault, Memory}
 use Rattle.vir_soc.specs.Reader.Answers.{Shows}
 use Rattle.vir_soc.specs.Checks.{◌>>=◌, fault_of}
-use Rattle.vir_soc.specs.Said.{Said}
-use Rattle.vir_soc.specs.Soc.{ended_said, settled, soc, too_long}
+use Rattle.vir_soc.specs.Content.{Content}
+use Rattle.vir_soc.specs.Soc.{ended_content, settled, soc, too_long}
 use Rattle.vir_soc.specs.declared.soc_reader.TheConstants.{SIZE_LIMIT}
 use Rattle.vir_soc.specs.Reader.Stands.{stands}
 use Rattle.vir_soc.proofs.StandLemmas.{fault_stays}
@@ -46,7 +46,7 @@ fault_of_rest None left fed fault parts shown = tt
 fault_of_rest (Some xs) None fed fault parts shown = absurd parts
 fault_of_rest (Some xs) (Some ys) fed fault parts shown = ap soc parts ∙ fault_stays fed ys fault shown
 
-never_none : (A : Type 0) (said : Result Said SocFault) (f : SocFault) → fault_of {A = A} {E = SocFault} (said >>= λ _. Err f) ≡ None → ⊥
+never_none : (A : Type 0) (content : Result Content SocFault) (f : SocFault) → fault_of {A = A} {E = SocFault} (content >>= λ _. Err f) ≡ None → ⊥
 never_none A (Ok s) f none = cc
 never_none A (Err g) f none = cc
 
@@ -54,7 +54,7 @@ never_none A (Err g) f none = cc
 pub settled-within : (bytes : List ℕ) → settled bytes ≡ None → length bytes ≤ SIZE_LIMIT
 settled-within bytes none = elim (nat_le (length bytes) SIZE_LIMIT) as (λ b. nat_le (length bytes) SIZE_LIMIT ≡ b → length bytes ≤ SIZE_LIMIT) [
   | true ↦ λ e. grind (arith, nat_tests)
-  | false ↦ λ e. absurd (never_none Said (ended_said (take SIZE_LIMIT bytes)) _ (ap (λ b. fault_of (cond b (ended_said bytes) (too_long (take SIZE_LIMIT bytes)))) (sym e) ∙ none))
+  | false ↦ λ e. absurd (never_none Content (ended_content (take SIZE_LIMIT bytes)) _ (ap (λ b. fault_of (cond b (ended_content bytes) (too_long (take SIZE_LIMIT bytes)))) (sym e) ∙ none))
 ] refl
 
 -- the fault that a reader shows at a piece is that of the rest

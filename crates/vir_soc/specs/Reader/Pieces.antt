@@ -7,26 +7,26 @@ use Rattle.vir_soc.specs.declared.fault.SocFault.{SocFault}
 use Rattle.vir_soc.specs.Checks.{◌>>=◌, refuse, at_line}
 use Rattle.vir_soc.specs.LineKinds.{LineKind, text_kind}
 use Rattle.vir_soc.specs.Lines.{trim, without_mark}
-use Rattle.vir_soc.specs.Said.{Said}
-use Rattle.vir_soc.specs.Soc.{after_line, after_lines, whole}
+use Rattle.vir_soc.specs.Content.{Content}
+use Rattle.vir_soc.specs.Soc.{after_line, after_lines, complete_file}
 use Rattle.vir_soc.specs.declared.soc_reader.TheConstants.{SIZE_LIMIT}
 
 -- what the line of this number is; the first one may begin with a byte order mark
 abbrev pub kind_at : ℕ → List ℕ → LineKind
 kind_at line text = text_kind (trim (if nat_eq line 1 then without_mark text else text))
 
--- what is said after the line of this number
-unfoldable pub after_text : Said → ℕ → List ℕ → Result Said SocKind
-after_text said line text = after_line said line (kind_at line text)
+-- the content after the line of this number
+unfoldable pub after_text : Content → ℕ → List ℕ → Result Content SocKind
+after_text content line text = after_line content line (kind_at line text)
 
 -- what these lines are, the first of them being that of this number
 unfoldable pub kinds_from : ℕ → List (List ℕ) → List LineKind
 kinds_from line [] = []
 kinds_from line (text ∷ texts) = kind_at line text ∷ kinds_from (line + 1) texts
 
--- what is said after these lines
-abbrev pub after_texts : Said → ℕ → List (List ℕ) → Result Said SocFault
-after_texts said line texts = after_lines said line (kinds_from line texts)
+-- the content after these lines
+abbrev pub after_texts : Content → ℕ → List (List ℕ) → Result Content SocFault
+after_texts content line texts = after_lines content line (kinds_from line texts)
 
 -- the lines that a line feed ends, where the first of them has begun so
 unfoldable pub ended : List ℕ → List ℕ → List (List ℕ)
@@ -38,23 +38,23 @@ unfoldable pub unended : List ℕ → List ℕ → List ℕ
 unended begun [] = begun
 unended begun (c ∷ cs) = if is_line_feed c then unended [] cs else unended (begun ++ c ∷ []) cs
 
--- what the ended lines say, the number of the line that has begun, and its bytes so far
+-- the content of the ended lines, the number of the line that has begun, and its bytes so far
 pub record Progress : Type 0 where
-  pub said : Said
+  pub content : Content
   pub line : ℕ
   pub begun : List ℕ
 
 -- the line that has begun ends with these bytes
 abbrev pub end_line : Progress → List ℕ → Result Progress SocFault
 end_line p end = do
-  said ← at_line p.line (after_text p.said p.line (p.begun ++ end))
-  Ok (record { said = said; line = p.line + 1; begun = [] })
+  content ← at_line p.line (after_text p.content p.line (p.begun ++ end))
+  Ok (record { content = content; line = p.line + 1; begun = [] })
 
 -- further bytes
 abbrev pub reads : Progress → List ℕ → Result Progress SocFault
 reads p bytes = do
-  said ← after_texts p.said p.line (ended p.begun bytes)
-  Ok (record { said = said; line = p.line + length (ended p.begun bytes); begun = unended p.begun bytes })
+  content ← after_texts p.content p.line (ended p.begun bytes)
+  Ok (record { content = content; line = p.line + length (ended p.begun bytes); begun = unended p.begun bytes })
 
 -- progress, and how many bytes there were
 pub record Reading : Type 0 where
@@ -69,7 +69,7 @@ feeds r piece = do
   Ok (record { progress = p; size = r.size + length piece })
 
 -- the file, where this is its last line
-abbrev pub closed : Said → ℕ → List ℕ → Result File SocFault
-closed said last text = do
-  said ← at_line last (after_text said last text)
-  whole said last
+abbrev pub closed : Content → ℕ → List ℕ → Result File SocFault
+closed content last text = do
+  content ← at_line last (after_text content last text)
+  complete_file content last

@@ -10,7 +10,7 @@ use Rattle.vir_soc.specs.declared.kind.SocKind.TheVariants.{OutOfRange, Repeated
 use Rattle.vir_soc.specs.declared.stop.Stop.{Stop}
 use Rattle.vir_soc.specs.declared.stop.Stop.TheVariants.{Kind, Memory}
 use Rattle.vir_soc.specs.Checks.{◌>>=◌}
-use Rattle.vir_soc.specs.Metadata.{alternatives_told}
+use Rattle.vir_soc.specs.Metadata.{alternatives_stated}
 
 -- why a profile refused a line, as the reader says it
 abbrev pub stop_of : AddFault → Stop
@@ -30,8 +30,8 @@ IsKey Orders = Unit {0}
 IsKey (NameOf i) = (1 ≤ i) × (i ≤ limit)
 IsKey Other = Unit {0}
 
--- the number of alternatives as it is known after a line that tells it
+-- the number of alternatives as it is known after a line that states it
 abbrev pub alternatives_taken : Option ℕ → List ℕ → Result (Option ℕ) SocKind
 alternatives_taken earlier value = do
-  m ← alternatives_told earlier value
+  m ← alternatives_stated earlier value
   Ok (Some m)

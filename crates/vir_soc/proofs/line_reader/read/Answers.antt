@@ -25,7 +25,7 @@ goes_on first now next piece rest end after old h b is l = record {
   line = let a = length-drop (position_or_len is_line_feed rest + 1) rest in let e = ap length h.1 in let o = old.line in let z = h.0 in omega arith;
 }
 
-ends : (first now : Progress) (piece rest end begun : List ℕ) → reads first piece ≡ reads now rest → position_or_len is_line_feed rest ≡ length rest → end ≡ before_first is_line_feed rest → begun ≡ now.begun ++ end → reads first piece ≡ Ok (record { said = now.said; line = now.line; begun = begun })
+ends : (first now : Progress) (piece rest end begun : List ℕ) → reads first piece ≡ reads now rest → position_or_len is_line_feed rest ≡ length rest → end ≡ before_first is_line_feed rest → begun ≡ now.begun ++ end → reads first piece ≡ Ok (record { content = now.content; line = now.line; begun = begun })
 ends first now piece rest end begun s h b is =
     let e : begun ≡ now.begun ++ rest = is ∙ ap (λ xs. now.begun ++ xs) (b ∙ take_all (position_or_len is_line_feed rest) rest (omega arith)) in
     rw e (s ∙ reads_none now rest h)

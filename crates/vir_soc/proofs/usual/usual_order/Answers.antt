@@ -1,6 +1,6 @@
 use Rattle.std.proofs.Common.{◌≤◌, [], length, Ok, ap, sym, ◌∙◌, arith}
 use Rattle.vir_soc.proofs.OrderLemmas.{sound_push, stood_before, seen_push}
-use Rattle.vir_soc.proofs.UsualLemmas.{begins, brace_later, empty_is, no_brace_last, order_after-last, order_after-next, order_fault-whole}
+use Rattle.vir_soc.proofs.UsualLemmas.{begins, brace_later, empty_is, no_brace_last, order_after-last, order_after-next, order_fault-complete}
 use Rattle.vir_soc.proofs.usual.usual_order.Goals as goal
 
 pub returns-else-len-from-clause-order : goal.returns-else-len-from-clause-order
@@ -24,7 +24,7 @@ returns-else-len-from-clause-judged c =
     let once = stood_before c.loop-order.seen order x _ _ c.loop-order.invariant.set c.has.ensures c.if-has.false in
     let all : c.args.m ≤ length c.push.new.self = omega arith in
     let sound = rw (← c.in-Ok.ensures.pushed) at (sound_push c.args.m [] order x c.in_ok-next.ensures.some (omega arith) c.loop-order.invariant.sound once) in
-    order_fault-whole c.args.m c.push.new.self sound all
+    order_fault-complete c.args.m c.push.new.self sound all
 
 pub loop-order-preserved : goal.loop-order-preserved
 loop-order-preserved c =

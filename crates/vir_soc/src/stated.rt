@@ -1,21 +1,21 @@
 ghost use Rattle.std.specs.Prelude.{◌≡◌, ◌≤◌, None, IfOk};
 ghost use Rattle.vir_altset.specs.Sets.{limit};
-ghost use Rattle.vir_soc.specs.Metadata.{alternatives_told, number_told};
+ghost use Rattle.vir_soc.specs.Metadata.{alternatives_stated, number_stated};
 
 use crate::bytes::number;
 use crate::kind::SocKind;
 use vir_profile::LIMIT;
 
-/// A number that metadata tells, and the first line that tells it.
+/// A number that metadata states, and the first line that states it.
 #[derive(Clone, Copy)]
-pub struct Told {
+pub struct Stated {
     pub value: u64,
     pub line: u64,
 }
 
-/// The number of alternatives that a value tells, beside what an earlier line told.
-pub fn alternatives_told(earlier: Option<u16>, value: &[u8]) -> Result<u16, SocKind>
-    ensures exact { result ≡ alternatives_told earlier value.now }
+/// The number of alternatives that a value states, beside what an earlier line stated.
+pub fn alternatives_stated(earlier: Option<u16>, value: &[u8]) -> Result<u16, SocKind>
+    ensures exact { result ≡ alternatives_stated earlier value.now }
     ensures range { IfOk result (λ m. earlier ≡ None → (1 ≤ m) × (m ≤ limit)) }
 {
     let Some(n) = number(value) else {
@@ -38,9 +38,9 @@ pub fn alternatives_told(earlier: Option<u16>, value: &[u8]) -> Result<u16, SocK
     }
 }
 
-/// The number of voters or orders that a value tells, beside what an earlier line told.
-pub fn number_told(earlier: Option<Told>, line: u64, value: &[u8]) -> Result<Told, SocKind>
-    ensures { result ≡ number_told earlier line value.now }
+/// The number of voters or orders that a value states, beside what an earlier line stated.
+pub fn number_stated(earlier: Option<Stated>, line: u64, value: &[u8]) -> Result<Stated, SocKind>
+    ensures { result ≡ number_stated earlier line value.now }
 {
     let Some(n) = number(value) else {
         return Err(SocKind::BadNumber);
@@ -50,7 +50,7 @@ pub fn number_told(earlier: Option<Told>, line: u64, value: &[u8]) -> Result<Tol
     }
     let value = n as u64;
     match earlier {
-        None => Ok(Told { value, line }),
+        None => Ok(Stated { value, line }),
         Some(earlier) => if value == earlier.value {
             Ok(earlier)
         } else {

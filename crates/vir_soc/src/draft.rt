@@ -1,30 +1,30 @@
 ghost use Rattle.std.specs.Prelude.{◌≡◌, OnOk};
-ghost use Rattle.vir_soc.specs.Said.{nothing};
+ghost use Rattle.vir_soc.specs.Content.{nothing};
 ghost use Rattle.vir_soc.specs.Reader.Answers.{Follows};
 ghost use Rattle.vir_soc.specs.Reader.Steps.{alternatives_taken};
-ghost use Rattle.vir_soc.specs.Reader.Views.{alternatives_of, said_of, votes_of};
+ghost use Rattle.vir_soc.specs.Reader.Views.{alternatives_of, content_of, votes_of};
 
 use crate::kind::SocKind;
 use crate::names::Names;
-use crate::told::{Told, alternatives_told};
+use crate::stated::{Stated, alternatives_stated};
 use std::alloc::Global;
 use vir_profile::Profile;
 
-/// What the lines so far say. The profile is there once the number of alternatives is told.
+/// The content of the lines so far. The profile is there once the number of alternatives is stated.
 #[derive(Drop)]
-pub struct Sayings {
+pub struct Draft {
     pub profile: Option<Profile>,
-    pub voters: Option<Told>,
-    pub orders: Option<Told>,
+    pub voters: Option<Stated>,
+    pub orders: Option<Stated>,
     pub names: Names,
 }
 
-impl Sayings {
-    /// What no lines say.
-    pub fn new(alloc: Global) -> Sayings
-        ensures { said_of result ≡ nothing }
+impl Draft {
+    /// The content of no lines.
+    pub fn new(alloc: Global) -> Draft
+        ensures { content_of result ≡ nothing }
     {
-        Sayings {
+        Draft {
             profile: None,
             voters: None,
             orders: None,
@@ -33,7 +33,7 @@ impl Sayings {
     }
 }
 
-/// The number of alternatives, once it is told.
+/// The number of alternatives, once it is stated.
 fn count_of(profile: &Option<Profile>) -> Option<u16>
     ensures { result ≡ alternatives_of profile.now }
 {
@@ -54,7 +54,7 @@ pub fn take_alternatives(
     ensures votes { OnOk result (votes_of profile.new ≡ votes_of profile.old) }
 {
     let earlier = count_of(profile);
-    let m = alternatives_told(earlier, value)?;
+    let m = alternatives_stated(earlier, value)?;
     if earlier.is_none() {
         *profile = Some(Profile::new(alloc, m));
     }
