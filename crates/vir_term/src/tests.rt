@@ -1,6 +1,7 @@
 // Terms at the limits, and one past them.
 use crate::{Leaf, Term};
 use std::alloc::{AllocError, Global};
+use std::process::Abort;
 
 // A module, or a pair of modules.
 fn part(alloc: Global, is_pair: bool) -> Result<Term, AllocError> {
@@ -32,25 +33,35 @@ fn nested(
     Ok(term)
 }
 
+fn expect_fits(rt: &impl Abort, term: &Term, fits: bool, levels: u32) {
+    assert!(rt; term.within_limits() == fits, "{levels} levels");
+}
+
+// How many levels, whether of pairs, and whether the term is within the limits. There are 64 levels at
+// the most; and a size of 4 for each level of pairs: 50 levels have 197.
+const LEVELS: &[(u32, bool, bool)] = &[
+    (1, false, true),
+    (64, false, true),
+    (65, false, false),
+    (50, true, true),
+    (51, true, false),
+];
+
 #[test]
 fn the_limits_are_met_and_not_passed(rt: HostRuntime) -> Result<(), AllocError> {
-    let alloc = rt.alloc();
-    // 64 levels at the most; and a size of 4 for each level of pairs: 50 levels have 197.
-    let table = [
-        (1, false, true),
-        (64, false, true),
-        (65, false, false),
-        (50, true, true),
-        (51, true, false),
-    ];
-    for (levels, of_pairs, fits) in table {
-        for to_the_left in [false, true] {
-            let term = nested(alloc, levels, to_the_left, of_pairs)?;
-            assert_eq!(rt; term.within_limits(), fits, "{levels} levels");
-        }
+    for (levels, of_pairs, fits) in LEVELS {
+        let to_the_left = nested(rt.alloc(), *levels, true, *of_pairs)?;
+        expect_fits(&rt, &to_the_left, *fits, *levels);
+        let to_the_right = nested(rt.alloc(), *levels, false, *of_pairs)?;
+        expect_fits(&rt, &to_the_right, *fits, *levels);
     }
-    let pair = part(alloc, true)?;
+    Ok(())
+}
+
+#[test]
+fn a_pair_is_of_size_3(rt: HostRuntime) -> Result<(), AllocError> {
+    let pair = part(rt.alloc(), true)?;
     assert!(rt; pair.within_limits());
-    assert_eq!(rt; pair.size(), 3);
+    assert!(rt; pair.size() == 3);
     Ok(())
 }
