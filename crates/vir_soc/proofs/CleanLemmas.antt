@@ -30,7 +30,7 @@ trim-clean (c ∷ cs) h =
     let front : trim_front (c ∷ cs) ≡ c ∷ cs = rw h.front refl in
     ap trim_back front ∙ trim_back-clean (c ∷ cs) h.some h.back
 
-trim-space : (text : List ℕ) → trim (32 ∷ text) ≡ trim text
+pub trim-space : (text : List ℕ) → trim (32 ∷ text) ≡ trim text
 trim-space text = let e : 1 + prefix_len is_blank text ≡ suc (prefix_len is_blank text) = omega arith in ap (λ n. trim_back (drop n (32 ∷ text))) e
 
 pub trim-spaced : (text : List ℕ) → IsClean text → trim (32 ∷ text) ≡ text

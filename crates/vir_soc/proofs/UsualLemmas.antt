@@ -1,7 +1,7 @@
 -- Lines of votes in their usual shape.
-use Rattle.std.proofs.Common.{◌≡◌, ℕ, ◌+◌, ◌*◌, ◌-◌, ◌<◌, ◌≤◌, ◌^◌, ◌/◌, ◌%◌, true, false, ◌⊎◌, inl, inr, List, [], ◌∷◌, ◌++◌, length, decimal, Some, None, Ok, nat_eq, nat_lt, ap, ◌∙◌, refl, arith, append-nil}
+use Rattle.std.proofs.Common.{◌≡◌, ℕ, suc, Bool, true, false, cond, sym, drop, subst, ◌+◌, ◌*◌, ◌-◌, ◌<◌, ◌≤◌, ◌^◌, ◌/◌, ◌%◌, List, [], ◌∷◌, ◌++◌, length, decimal, Some, None, Ok, nat_eq, nat_lt, ap, ◌∙◌, refl, arith, append-nil}
 use Rattle.std.specs.Prelude.{All}
-use Rattle.std.specs.List.{list_any, slice_split}
+use Rattle.std.specs.List.{list_any, prefix_len, slice_split}
 use Rattle.std.proofs.lemmas.Bool.Decides.{nat_tests}
 use Rattle.std.proofs.lemmas.Fmt.{decimal_digit, decimal_step}
 use Rattle.std.proofs.lemmas.List.Elements.{All-cons}
@@ -14,10 +14,10 @@ use Rattle.vir_soc.specs.Lines.{trim}
 use Rattle.vir_soc.specs.LineKinds.{is_colon}
 use Rattle.vir_soc.specs.Numbers.{number}
 use Rattle.vir_soc.specs.Votes.{alternative, is_brace, is_comma, order_after, with_order, with_votes}
-use Rattle.vir_soc.proofs.CleanLemmas.{IsClean-decimal, after_colon, before_colon, colon_inside, trim-clean, trim-spaced}
+use Rattle.vir_soc.proofs.CleanLemmas.{IsClean-decimal, after_colon, before_colon, colon_inside, trim-clean, trim-space}
 use Rattle.vir_soc.proofs.DigitLemmas.{brace_fails, colon_fails, list_any-decimal, number-decimal}
 use Rattle.vir_soc.proofs.OrderLemmas.{ranged}
-use Rattle.vir_soc.proofs.WrittenVotesLemmas.{alternative-decimal, in_range, no_comma}
+use Rattle.vir_soc.proofs.WrittenVotesLemmas.{alternative-decimal, no_comma}
 
 -- ---- digits
 
@@ -42,23 +42,22 @@ pub record Names (m x : ℕ) (part : List ℕ) : Type 0 where
   pub no_comma : All (λ c. is_comma c ≡ false) part
   pub no_brace : list_any is_brace part ≡ false
 
-module _ (m x : ℕ) (few : m ≤ limit) (some : 1 ≤ x) (known : x ≤ m) where
-  small : x < 2 ^ 64
-  small = omega arith
+Names-decimal : (m x : ℕ) → m ≤ limit → 1 ≤ x → x ≤ m → Names m x (decimal x)
+Names-decimal m x few some known =
+    let small : x < 2 ^ 64 = omega arith in
+    record {
+      read = alternative-decimal m x small (ranged m x some known);
+      no_comma = no_comma x small;
+      no_brace = list_any-decimal is_brace brace_fails x small;
+    }
 
-  Names-decimal : Names m x (decimal x)
-  Names-decimal = record {
-    read = alternative-decimal m x small (ranged m x some known);
-    no_comma = no_comma x small;
-    no_brace = list_any-decimal is_brace brace_fails x small;
-  }
-
-  Names-spaced : Names m x (32 ∷ decimal x)
-  Names-spaced = record {
-    read = rw (trim-spaced (decimal x) (IsClean-decimal x small), number-decimal x small, in_range m x (ranged m x some known)) refl;
-    no_comma = All-cons (λ c. is_comma c ≡ false) 32 (decimal x) refl (no_comma x small);
-    no_brace = list_any-decimal is_brace brace_fails x small;
-  }
+-- a space before the part
+Names-space : (m x : ℕ) (part : List ℕ) → Names m x part → Names m x (32 ∷ part)
+Names-space m x part names = record {
+  read = rw (trim-space part) names.read;
+  no_comma = All-cons (λ c. is_comma c ≡ false) 32 part refl names.no_comma;
+  no_brace = names.no_brace;
+}
 
 -- a text whose first part names x, and what stands behind that part
 pub record Begins (m x : ℕ) (text after : List ℕ) : Type 0 where
@@ -66,9 +65,29 @@ pub record Begins (m x : ℕ) (text after : List ℕ) : Type 0 where
   pub names : Names m x part
   pub parts : text ≡ part ++ after
 
-pub begins : (m x : ℕ) (text unspaced after : List ℕ) → m ≤ limit → 1 ≤ x → x ≤ m → (text ≡ 32 ∷ unspaced) ⊎ (text ≡ unspaced) → unspaced ≡ decimal x ++ after → Begins m x text after
-begins m x text unspaced after few some known (inl spaced) digits = record { part = 32 ∷ decimal x; names = Names-spaced m x few some known; parts = spaced ∙ ap (λ t. 32 ∷ t) digits }
-begins m x text unspaced after few some known (inr same) digits = record { part = decimal x; names = Names-decimal m x few some known; parts = same ∙ digits }
+abbrev unspaced : List ℕ → List ℕ
+unspaced text = drop (prefix_len (λ c. nat_eq c 32) text) text
+
+module _ (m x : ℕ) (after : List ℕ) (few : m ≤ limit) (some : 1 ≤ x) (known : x ≤ m) where
+  at_once : (text : List ℕ) → text ≡ decimal x ++ after → Begins m x text after
+  at_once text e = record { part = decimal x; names = Names-decimal m x few some known; parts = e }
+
+  behind_space : (rest : List ℕ) → Begins m x rest after → Begins m x (32 ∷ rest) after
+  behind_space rest b = record { part = 32 ∷ b.part; names = Names-space m x b.part b.names; parts = ap (λ t. 32 ∷ t) b.parts }
+
+  by_space : (c : ℕ) (rest : List ℕ) (space : Bool) → nat_eq c 32 ≡ space → (unspaced rest ≡ decimal x ++ after → Begins m x rest after) → drop (cond space (1 + prefix_len (λ c. nat_eq c 32) rest) 0) (c ∷ rest) ≡ decimal x ++ after → Begins m x (c ∷ rest) after
+  by_space c rest true s later e =
+      let is : 32 ≡ c = grind (arith, nat_tests) in
+      let n : suc (prefix_len (λ c. nat_eq c 32) rest) ≡ 1 + prefix_len (λ c. nat_eq c 32) rest = omega arith in
+      subst (λ (c : ℕ). Begins m x (c ∷ rest) after) is (behind_space rest (later (ap (λ k. drop k (c ∷ rest)) n ∙ e)))
+  by_space c rest false s later e = at_once (c ∷ rest) e
+
+  begins_text : (text : List ℕ) → unspaced text ≡ decimal x ++ after → Begins m x text after
+  begins_text [] e = at_once [] e
+  begins_text (c ∷ rest) e = by_space c rest (nat_eq c 32) refl (begins_text rest) e
+
+pub begins : (m x : ℕ) (text digits after : List ℕ) → m ≤ limit → 1 ≤ x → x ≤ m → digits ≡ unspaced text → digits ≡ decimal x ++ after → Begins m x text after
+begins m x text digits after few some known u e = begins_text m x after few some known text (sym u ∙ e)
 
 module _ (m x : ℕ) (text after : List ℕ) (b : Begins m x text after) where
   pub no_brace_last : after ≡ [] → list_any is_brace text ≡ false

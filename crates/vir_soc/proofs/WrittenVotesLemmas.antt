@@ -57,7 +57,7 @@ fault_first true true next h = absurd cc
 fault_first true false next h = (refl, refl, h)
 fault_first false again next h = absurd cc
 
-pub in_range : (m x : ℕ) → (nat_le 1 x && nat_le x m) ≡ true → (nat_eq x 0 || nat_lt m x) ≡ false
+in_range : (m x : ℕ) → (nat_le 1 x && nat_le x m) ≡ true → (nat_eq x 0 || nat_lt m x) ≡ false
 in_range m x h = grind (arith, nat_tests)
 
 pub alternative-decimal : (m x : ℕ) → x < 2 ^ 64 → (nat_le 1 x && nat_le x m) ≡ true → alternative m (decimal x) ≡ Ok x

@@ -1,6 +1,6 @@
 // Lines of votes in their usual shape, which are read in one pass.
-ghost use Rattle.std.specs.Prelude.{◌≡◌, ◌≤◌, ◌<◌, ◌^◌, ◌++◌, ◌∷◌, ◌⊎◌, [], List, Ok, None, false, decimal, length, IfSome};
-ghost use Rattle.std.specs.List.{list_any, slice_split};
+ghost use Rattle.std.specs.Prelude.{◌≡◌, ◌≤◌, ◌<◌, ◌^◌, ◌++◌, ◌∷◌, [], List, Ok, None, false, decimal, drop, length, nat_eq, IfSome};
+ghost use Rattle.std.specs.List.{list_any, prefix_len, slice_split};
 ghost use Rattle.vir_altset.specs.Sets.{limit};
 ghost use Rattle.vir_profile.specs.OrderFaults.{order_fault};
 ghost use Rattle.vir_profile.specs.declared.ballot.Entry.{Entry};
@@ -51,19 +51,19 @@ fn behind(byte: u8, text: &[u8]) -> Option<&[u8]>
     Some(&text[1..])
 }
 
-/// The text without a space at its front.
+/// The text without the spaces at its front.
 fn unspaced(text: &[u8]) -> &[u8]
-    ensures { (text.now ≡ 32 ∷ result.now) ⊎ (text.now ≡ result.now) }
+    ensures { result.now ≡ drop (prefix_len (λ c. nat_eq c 32) text.now) text.now }
 {
-    if !text.is_empty() && text[0] == b' ' {
-        &text[1..]
-    } else {
-        text
+    let mut from = 0;
+    while from < text.len() && text[from] == b' ' {
+        from += 1;
     }
+    &text[from..]
 }
 
-/// The order of all m alternatives that the text is in the usual shape, each of them behind at most one
-/// space; None also where memory is wanting.
+/// The order of all m alternatives that the text is in the usual shape; None also where memory is
+/// wanting.
 fn usual_order(alloc: Global, m: u16, text: &[u8]) -> Option<Ballot>
     requires { m ≤ limit }
     ensures order { IfSome result (λ order. order_after m [] (slice_split is_comma text.now) ≡ Ok order) }
@@ -97,9 +97,9 @@ fn usual_order(alloc: Global, m: u16, text: &[u8]) -> Option<Ballot>
     }
 }
 
-/// The line of votes that the text is in the usual shape: no number has a leading zero, the colon and
-/// the commas stand right behind the numbers, and at most one space stands before each alternative.
-/// None for any other text, and where memory is wanting.
+/// The line of votes that the text is in the usual shape: no number has a leading zero, and blanks stand
+/// behind the colon and the commas alone, where they are spaces. None for any other text, and where
+/// memory is wanting.
 pub fn usual_line(alloc: Global, m: u16, text: &[u8]) -> Option<Entry>
     requires { m ≤ limit }
     ensures says { IfSome result (λ line. (votes : List Entry)
