@@ -1,8 +1,9 @@
-ghost use Rattle.std.specs.Prelude.{◌≡◌, ◌≤◌, [], None, Ok, OnOk, IfOk};
+ghost use Rattle.std.specs.Prelude.{◌≡◌, ◌≤◌, ◌<◌, ℕ, [], List, None, Ok, Err, OnOk, IfOk, length};
 ghost use Rattle.std.specs.Bool.{MatchBool};
 ghost use Rattle.std.specs.List.{list_any, slice_split};
 ghost use Rattle.vir_altset.specs.Sets.{limit};
 ghost use Rattle.vir_profile.specs.OrderFaults.{member_fault_after};
+ghost use Rattle.vir_profile.specs.Profiles.{voters_limit};
 ghost use Rattle.vir_soc.specs.Reader.Answers.{Gives, kind_in};
 ghost use Rattle.vir_soc.specs.Reader.Steps.{stop_of};
 ghost use Rattle.vir_soc.specs.Votes.{alternative, is_brace, is_comma, order_after, with_order, with_votes};
@@ -12,7 +13,7 @@ use crate::kind::SocKind;
 use crate::stop::Stop;
 use crate::usual::usual_line;
 use std::alloc::Global;
-use vir_profile::{AddFault, AltSet, Ballot, Entry, Profile};
+use vir_profile::{AddFault, AltSet, Ballot, Entry, LINES_LIMIT, Profile};
 
 /// The alternative that a part of an order names.
 fn alternative(m: u16, part: &[u8]) -> Result<u16, SocKind>
@@ -77,6 +78,21 @@ fn stop_of(fault: AddFault) -> Stop
     }
 }
 
+/// Why a line of so many alternatives isn't taken whose count alone is more than a profile may have
+/// voters.
+fn huge_count_fault(profile: &Profile, members: usize) -> SocKind
+    ensures { (count : ℕ) (order : List ℕ) → voters_limit < count → length order ≡ members
+        → with_order profile.now.alternatives profile.now.lines count order ≡ Err result }
+{
+    if members < usize::from(profile.alternatives()) {
+        SocKind::Short
+    } else if profile.lines() >= LINES_LIMIT {
+        SocKind::TooManyOrders
+    } else {
+        SocKind::TooManyVoters
+    }
+}
+
 /// Adds a line of this count and of an order none of whose members is at fault. A count above 2^64 is
 /// given as 2^64.
 fn add(profile: &mut Profile, count: u128, order: Vec<u16>) -> Result<(), Stop>
@@ -85,17 +101,13 @@ fn add(profile: &mut Profile, count: u128, order: Vec<u16>) -> Result<(), Stop>
         (with_order profile.old.alternatives profile.old.lines count order.items) }
     ensures alternatives { OnOk result (profile.new.alternatives ≡ profile.old.alternatives) }
 {
-    let fits = count < 1 << 64;
-    let weight = if fits { count as u64 } else { 0 };
-    match profile.add(Entry {
-        weight,
-        order: Ballot::of(order),
-    }) {
-        Ok(()) => if fits {
-            Ok(())
-        } else {
-            Err(Stop::Kind(SocKind::TooManyVoters))
-        },
+    if count >= 1 << 64 {
+        return Err(Stop::Kind(huge_count_fault(profile, order.len())));
+    }
+    let weight = count as u64;
+    let order = Ballot::of(order);
+    match profile.add(Entry { weight, order }) {
+        Ok(()) => Ok(()),
         Err(refused) => Err(stop_of(refused.fault)),
     }
 }
