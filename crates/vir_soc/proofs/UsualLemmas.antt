@@ -65,6 +65,7 @@ pub record Begins (m x : ℕ) (text after : List ℕ) : Type 0 where
   pub names : Names m x part
   pub parts : text ≡ part ++ after
 
+-- without the spaces at its front
 abbrev unspaced : List ℕ → List ℕ
 unspaced text = drop (prefix_len (λ c. nat_eq c 32) text) text
 

@@ -55,6 +55,9 @@ fn behind(byte: u8, text: &[u8]) -> Option<&[u8]>
 fn unspaced(text: &[u8]) -> &[u8]
     ensures { result.now ≡ drop (prefix_len (λ c. nat_eq c 32) text.now) text.now }
 {
+    if text.is_empty() || text[0] != b' ' {
+        return text;
+    }
     let mut from = 0;
     while from < text.len() && text[from] == b' ' {
         from += 1;
