@@ -3,10 +3,11 @@ use Rattle.std.specs.Prelude.{◌≡◌, ℕ, zero, suc, ◌+◌, ◌-◌, ◌*�
 use Rattle.std.specs.Int.{bit_at}
 use Rattle.std.specs.FinSet as set
 use Rattle.vir_altset.specs.Sets.{Set, all}
+use Rattle.vir_altset.specs.declared.alt_set.TheConstants.{WORDS}
 
 -- how many words a set has
 abbrev pub word_count : ℕ
-word_count = 2
+word_count = WORDS
 
 -- n words of 64 bits
 pub record AreWords (n : ℕ) (words : List ℕ) : Type 0 where
