@@ -6,7 +6,8 @@
 //! at the calls that are listed; those over the current folder and over a writer of the standard
 //! library tell nothing of content, and are the edge that is trusted. `read_whole` and `write_whole`
 //! work at each of them, and their contract says what is read and written, what else they answer and
-//! why, and what they leave. The crate stands on the standard library alone.
+//! why, and what they leave. The crate stands on the standard library, and on `thiserror` for its
+//! errors.
 #![tactic(auto)]
 
 mod counted;

@@ -1,7 +1,8 @@
 -- The command line.
-use Rattle.std.specs.Prelude.{ℕ, List, [], ◌∷◌, None, Some, codes, if◌then◌else◌}
+use Rattle.std.specs.Prelude.{ℕ, List, [], ◌∷◌, None, Some, codes, map, string_bytes, if◌then◌else◌}
 use Rattle.std.specs.Str.{bytes_eq}
 use Rattle.std.specs.declared.option.Option.{Option}
+use Rattle.std.specs.declared.string.String.{String}
 use Rattle.virage.specs.declared.command.Command.{Command as Borrowed}
 use Rattle.virage.specs.declared.command.Command.TheVariants.{Count}
 
@@ -26,7 +27,11 @@ command_seen (Count rule profile) = count rule.now profile.now
 abbrev pub CanDeny : Command → Type 0
 CanDeny (count rule profile) = ⊥
 
--- The words are such a command.
-abbrev pub AskDenial : Option Command → Type 0
-AskDenial None = ⊥
-AskDenial (Some command) = CanDeny command
+-- The command is there, and can have one.
+abbrev pub CanAnyDeny : Option Command → Type 0
+CanAnyDeny None = ⊥
+CanAnyDeny (Some command) = CanDeny command
+
+-- The words are a command that can have one.
+abbrev pub AskDenial : {Z : Type 0} → List (String Z) → Type 0
+AskDenial words = CanAnyDeny (command_of (map string_bytes words))

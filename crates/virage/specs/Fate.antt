@@ -1,6 +1,7 @@
 -- What a call comes to by its words and what it is given, device faults and want of memory aside.
-use Rattle.std.specs.Prelude.{◌≡◌, ◌⊎◌, ℕ, List, None, Some, IsTrue, Result, Ok, Err, is_some, if◌then◌else◌}
+use Rattle.std.specs.Prelude.{◌≡◌, ◌⊎◌, ℕ, List, None, Some, IsTrue, Result, Ok, Err, is_some, map, string_bytes, if◌then◌else◌}
 use Rattle.std.specs.declared.option.Option.{Option}
+use Rattle.std.specs.declared.string.String.{String}
 use Rattle.vir_altset.specs.Sets.{all}
 use Rattle.vir_outside.specs.Shelf.{Files, told_content}
 use Rattle.vir_profile.specs.Profiles.{Votes}
@@ -71,3 +72,7 @@ words_fate given (Some command) = command_fate given command
 -- what a call with these words comes to
 abbrev pub fate : Given → List (List ℕ) → Fate
 fate given words = words_fate given (command_of words)
+
+-- what a call comes to that is given these words of the code, and a shelf that tells these files or none
+abbrev pub call_fate : {Z : Type 0} → Option Files → List (String Z) → Fate
+call_fate files words = fate (given files) (map string_bytes words)

@@ -1,6 +1,7 @@
 -- The files that a command may come to, and what an answer about one of them says.
-use Rattle.std.specs.Prelude.{◌≡◌, ◌⊎◌, ℕ, ◌+◌, Bool, List, [], ◌∷◌, length, nat_le, None, Some, IsSome, IsTrue, Result, Ok, Err, if◌then◌else◌}
+use Rattle.std.specs.Prelude.{◌≡◌, ◌⊎◌, ℕ, ◌+◌, Bool, List, [], ◌∷◌, length, map, nat_le, string_bytes, None, Some, IsSome, IsTrue, Result, Ok, Err, if◌then◌else◌}
 use Rattle.std.specs.declared.option.Option.{Option}
+use Rattle.std.specs.declared.string.String.{String}
 use Rattle.vir_outside.specs.Shelf.{Files, Lacks, TakesAtMost, told_content}
 use Rattle.vir_plain_rule.specs.declared.refusal.RuleRefusal.{RuleRefusal}
 use Rattle.vir_plain_rule.specs.declared.refusal.RuleRefusal.TheVariants.{NotPlain}
@@ -30,8 +31,8 @@ abbrev pub files_of_any : Option Command → List AskedFile
 files_of_any None = []
 files_of_any (Some command) = files_of command
 
-abbrev pub asked_files : List (List ℕ) → List AskedFile
-asked_files words = files_of_any (command_of words)
+abbrev pub asked_files : {Z : Type 0} → List (String Z) → List AskedFile
+asked_files words = files_of_any (command_of (map string_bytes words))
 
 -- The files are told and the first that is asked for is missing.
 abbrev pub LacksFirst : Option Files → List AskedFile → Type 0
