@@ -34,12 +34,6 @@ pub record IsFeeding (told : Option Files) (before : ℕ) (rest : Option (List �
   pub long : taken ≡ length fed
   pub parts : Consumes rest left fed
 
--- at the end, the bytes fed are the rest
-pub fed_whole : (rest left : Option (List ℕ)) (fed : List ℕ) → Consumes rest left fed → IsAtEnd left → IfSome rest (λ all. all ≡ fed)
-fed_whole None left fed parts end = tt
-fed_whole (Some xs) None fed parts end = absurd parts
-fed_whole (Some xs) (Some ys) fed parts end = parts ∙ ap (λ (ws : List ℕ). fed ++ ws) end ∙ append-nil fed
-
 -- a fault that the bytes fed settle is that of the rest
 pub fault_of_rest : (rest left : Option (List ℕ)) (fed : List ℕ) (fault : SocFault) → Consumes rest left fed → settled fed ≡ Some fault → IfSome rest (λ all. soc all ≡ Err fault)
 fault_of_rest None left fed fault parts shown = tt
@@ -66,22 +60,6 @@ shown_of_rest rest left new fed piece rose Memory first second shown = tt
 -- how many bytes were fed with it
 pub length-piece : (fed buf : List ℕ) (n : ℕ) → n ≤ length buf → length (fed ++ take n buf) ≡ length fed + n
 length-piece fed buf n within = omega (arith, length-append fed (take n buf), length-take n buf)
-
--- what a reader says that stands for the rest
-pub file_of_fed : (rest : Option (List ℕ)) (bytes : List ℕ) (file : File) → IfSome rest (λ all. all ≡ bytes) → soc bytes ≡ Ok file → IfSome rest (λ all. soc all ≡ Ok file)
-file_of_fed None bytes file told says = tt
-file_of_fed (Some all) bytes file told says = ap soc told ∙ says
-
-fault_of_fed : (rest : Option (List ℕ)) (bytes : List ℕ) (fault : SocFault) → IfSome rest (λ all. all ≡ bytes) → soc bytes ≡ Err fault → IfSome rest (λ all. soc all ≡ Err fault)
-fault_of_fed None bytes fault told says = tt
-fault_of_fed (Some all) bytes fault told says = ap soc told ∙ says
-
--- and why it stops
-pub stops_of_fed : (rest : Option (List ℕ)) (bytes : List ℕ) (rose : Type 0) (answer : Result File (FileStop SocFault)) → IfSome rest (λ all. all ≡ bytes) → IfErr answer (StopsRest (Some bytes) ⊥) → IfErr answer (StopsRest rest rose)
-stops_of_fed rest bytes rose (Ok f) told says = tt
-stops_of_fed rest bytes rose (Err file.Fault) told says = absurd says
-stops_of_fed rest bytes rose (Err (file.Refused fault)) told says = fault_of_fed rest bytes fault told says
-stops_of_fed rest bytes rose (Err file.Memory) told says = tt
 
 -- what the rest of a selected file says is what the file says
 says_of_rest : (files : Option Files) (name : List ℕ) (rest : Option (List ℕ)) (answer : Result File SocFault) → Selects files name rest → IfSome rest (λ all. soc all ≡ answer) → IsSome files → FileSays soc files name answer

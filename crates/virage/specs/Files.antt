@@ -67,6 +67,13 @@ pub record FileSays {T F : Type 0} (read : List ℕ → Result T F) (files : Opt
   pub content : told_content files name ≡ Some bytes
   pub says : read bytes ≡ answer
 
+-- What a call answers that judges a text is what the text says; want of memory is free.
+abbrev pub Judges : {X T F : Type 0} → Result T F → (X → T) → Result X (FileStop F) → Type 0
+Judges says view (Ok x) = says ≡ Ok (view x)
+Judges says view (Err Fault) = ⊥
+Judges says view (Err (Refused fault)) = says ≡ Err fault
+Judges says view (Err Memory) = Unit {0}
+
 -- What a call answers that reads the file of this name is what the file says, as far as files are told. It fails only where the
 -- count of faults rose or the file is missing; want of memory is free.
 abbrev pub Reads : {X T F : Type 0} → (List ℕ → Result T F) → (X → T) → Option Files → List ℕ → Type 0 → Result X (FileStop F) → Type 0

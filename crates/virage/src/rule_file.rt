@@ -3,7 +3,8 @@ ghost use Rattle.std.specs.Prelude.{◌≡◌, ◌⊎◌, ◌≤◌, ◌+◌, Is
 ghost use Rattle.vir_outside.specs.Faults.{Rose};
 ghost use Rattle.vir_outside.specs.Shelf.{Lacks, TakesAtMost};
 ghost use Rattle.vir_term.specs.Tree.{tree};
-ghost use Rattle.virage.specs.Files.{Reads, rule_of};
+ghost use Rattle.vir_plain_rule.specs.PlainRule.{plain_rule};
+ghost use Rattle.virage.specs.Files.{Judges, Reads, rule_of};
 
 use crate::file_stop::FileStop;
 use std::alloc::Global;
@@ -13,6 +14,17 @@ use vir_term::Term;
 
 /// The greatest length of a rule file, in bytes.
 pub const RULE_LIMIT: usize = 1_048_576;
+
+// The term of the text of a rule.
+fn judged(alloc: Global, text: &[u8]) -> Result<Term, FileStop<RuleRefusal>>
+    ensures { Judges (plain_rule text.now) tree result }
+{
+    match read_rule(alloc, text) {
+        Ok(term) => Ok(term),
+        Err(RuleError::Refused(refusal)) => Err(FileStop::Refused(refusal)),
+        Err(RuleError::Memory) => Err(FileStop::Memory),
+    }
+}
 
 /// The term of a rule file.
 pub fn rule_file<S: Shelf>(
@@ -28,11 +40,7 @@ pub fn rule_file<S: Shelf>(
     ensures later { S.faults shelf.old ≤ S.faults shelf.new }
 {
     match read_whole(alloc, shelf, name, RULE_LIMIT) {
-        Ok(text) => match read_rule(alloc, &text) {
-            Ok(term) => Ok(term),
-            Err(RuleError::Refused(refusal)) => Err(FileStop::Refused(refusal)),
-            Err(RuleError::Memory) => Err(FileStop::Memory),
-        },
+        Ok(text) => judged(alloc, &text),
         Err(ReadStop::Fault) => Err(FileStop::Fault),
         Err(ReadStop::TooLong) => Err(FileStop::Refused(RuleRefusal::NotPlain)),
         Err(ReadStop::Memory) => Err(FileStop::Memory),
