@@ -1,7 +1,10 @@
--- How large a term may be.
-use Rattle.std.specs.Prelude.{ℕ, ◌≤◌}
-use Rattle.vir_term.specs.declared.term.TheConstants.{NESTING_LIMIT, SIZE_LIMIT}
-use Rattle.vir_term.specs.Tree.{Tree, size, nesting}
+-- How large a term may be, and which numbers it may name.
+use Rattle.std.specs.Prelude.{ℕ, ◌≤◌, ◌≡◌, List, None, ⊤}
+use Rattle.vir_term.specs.declared.leaf.Leaf.{Leaf}
+use Rattle.vir_term.specs.declared.leaf.Leaf.TheVariants.{PassFirst, DropFirst}
+use Rattle.vir_term.specs.declared.limits.TheConstants.{COUNT_LIMIT, NESTING_LIMIT, SIZE_LIMIT}
+use Rattle.vir_term.specs.Orders.{order_fault}
+use Rattle.vir_term.specs.Tree.{Tree, leaf, rev, seq, par, loop, size, nesting}
 
 -- the greatest size
 abbrev pub size_limit : ℕ
@@ -11,7 +14,35 @@ size_limit = SIZE_LIMIT
 abbrev pub nesting_limit : ℕ
 nesting_limit = NESTING_LIMIT
 
--- a term of at most this size and nesting
+-- the greatest number of alternatives that a module or a loop may name
+abbrev pub count_limit : ℕ
+count_limit = COUNT_LIMIT
+
+-- a number of alternatives that a module or a loop may name
+pub record IsCount (k : ℕ) : Type 0 where
+  pub some : 1 ≤ k
+  pub few : k ≤ count_limit
+
+-- a module of a number and of a fixed order that it may name
+abbrev pub IsOfFirst : ℕ → List ℕ → Type 0
+IsOfFirst k order = IsCount k × (order_fault order ≡ None)
+
+-- a module whose number and fixed order, if it has them, are such
+abbrev pub IsLeafInRange : Leaf → Type 0
+IsLeafInRange (PassFirst k order) = IsOfFirst k order
+IsLeafInRange (DropFirst k order) = IsOfFirst k order
+IsLeafInRange _ = ⊤
+
+-- a term whose numbers and fixed orders are such
+abbrev pub IsInRange : Tree → Type 0
+IsInRange (leaf l) = IsLeafInRange l
+IsInRange (rev part) = IsInRange part
+IsInRange (seq first second) = IsInRange first × IsInRange second
+IsInRange (par first second) = IsInRange first × IsInRange second
+IsInRange (loop k body) = IsCount k × IsInRange body
+
+-- a term of at most this size and nesting, with numbers and orders in range
 pub record IsWithinLimits (t : Tree) : Type 0 where
   pub small : size t ≤ size_limit
   pub flat : nesting t ≤ nesting_limit
+  pub in_range : IsInRange t

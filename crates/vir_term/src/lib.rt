@@ -2,16 +2,24 @@
 //!
 //! A rule is built of electoral modules by composition, as in Diekhoff, Kirsten and Krämer,
 //! "Verified Construction of Fair Voting Rules" (LOPSTR 2019). This layer knows how such a term is
-//! built and how large it is; what it elects is the business of `vir_mean`. Its one contract: a
-//! `Term` is seen as a pure tree (`specs/Tree.antt`), whose size is told exactly, and
-//! `within_limits` tells of any term whether its size and its nesting are within the limits.
-//! It stands on std alone.
+//! built, how large it is, and how it is written; what it elects is the business of `vir_mean`. Its
+//! one contract: a `Term` is seen as a pure tree (`specs/Tree.antt`), of which `size`, `equals` and
+//! `copy` speak exactly; `within_limits` tells of any term whether it is within the limits
+//! (`specs/Limits.antt`); and `print` gives its text (`specs/Text.antt`). A `FixedOrder` is its list of
+//! alternatives, without repeats. It stands on std, and on `itoa` for numbers.
 #![tactic(auto)]
 
+mod fixed_order;
 mod leaf;
+mod limits;
+mod score;
 mod term;
 #[cfg(test)]
 mod tests;
+mod text;
 
-pub use leaf::Leaf;
-pub use term::{NESTING_LIMIT, SIZE_LIMIT, Term};
+pub use fixed_order::{FixedOrder, MEMBER_LIMIT, OrderFault};
+pub use leaf::{Leaf, LeafKind};
+pub use limits::{COUNT_LIMIT, NESTING_LIMIT, SIZE_LIMIT, is_count};
+pub use score::Score;
+pub use term::Term;

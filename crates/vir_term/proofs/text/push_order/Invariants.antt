@@ -1,0 +1,7 @@
+use Rattle.std.proofs.Common.{◌≡◌, ◌++◌, drop}
+use Rattle.vir_term.specs.Text.{more_text}
+use Rattle.vir_term.proofs.text.push_order.Given as goal
+
+-- what is written, and what is to come, is the whole
+abbrev pub invariant-loop-i : goal.invariant-loop-i
+invariant-loop-i l = l.text.items ++ more_text (drop l.i l.order) ≡ l.initial.text.items ++ more_text (drop 1 l.order)

@@ -1,0 +1,110 @@
+// Terms in the rule language, appended to a text.
+ghost use Rattle.std.specs.Prelude.{◌≡◌, ◌++◌, OnOk, codes, decimal};
+ghost use Rattle.vir_term.specs.Tree.{tree};
+ghost use Rattle.vir_term.specs.Text.{order_text, score_text, leaf_text, term_text};
+
+use crate::fixed_order::FixedOrder;
+use crate::leaf::Leaf;
+use crate::score::Score;
+use crate::term::Term;
+use itoa::Buffer;
+use std::alloc::AllocError;
+
+fn push_number(text: &mut Vec<u8>, n: u32) -> Result<(), AllocError>
+    ensures { OnOk result (text.new.items ≡ text.old.items ++ decimal n) }
+{
+    let mut buffer = Buffer::new();
+    text.extend_from_slice(buffer.format(n).as_bytes())
+}
+
+// The order as a second argument; the empty one is left out.
+fn push_order(text: &mut Vec<u8>, order: &FixedOrder) -> Result<(), AllocError>
+    ensures { OnOk result (text.new.items ≡ text.old.items ++ order_text order.now) }
+{
+    if order.len() == 0 {
+        return Ok(());
+    }
+    text.extend_from_slice(b",[")?;
+    push_number(text, u32::from(order.at(0)))?;
+    for i in 1..order.len() {
+        text.extend_from_slice(b",")?;
+        push_number(text, u32::from(order.at(i)))?;
+    }
+    text.extend_from_slice(b"]")
+}
+
+// A module with a number and an order, whose name ends with its opening parenthesis.
+fn push_module(
+    text: &mut Vec<u8>,
+    name: &[u8],
+    k: u32,
+    order: &FixedOrder,
+) -> Result<(), AllocError>
+    ensures { OnOk result (text.new.items ≡ text.old.items ++ (name.now ++ decimal k ++ order_text order.now ++ codes ")")) }
+{
+    text.extend_from_slice(name)?;
+    push_number(text, k)?;
+    push_order(text, order)?;
+    text.extend_from_slice(b")")
+}
+
+// An eliminator, whose name ends with its opening parenthesis.
+fn push_eliminator(text: &mut Vec<u8>, name: &[u8], score: Score) -> Result<(), AllocError>
+    ensures { OnOk result (text.new.items ≡ text.old.items ++ (name.now ++ score_text score ++ codes ")")) }
+{
+    text.extend_from_slice(name)?;
+    text.extend_from_slice(score.name().as_bytes())?;
+    text.extend_from_slice(b")")
+}
+
+/// Appends a module.
+pub fn push_leaf(text: &mut Vec<u8>, leaf: &Leaf) -> Result<(), AllocError>
+    ensures { OnOk result (text.new.items ≡ text.old.items ++ leaf_text leaf.now) }
+{
+    match leaf {
+        Leaf::Elect => text.extend_from_slice(b"elect"),
+        Leaf::Defer => text.extend_from_slice(b"defer"),
+        Leaf::PassFirst { k, order } => push_module(text, b"pass(", *k, order),
+        Leaf::DropFirst { k, order } => push_module(text, b"drop(", *k, order),
+        Leaf::Plurality => text.extend_from_slice(b"plurality"),
+        Leaf::Max(score) => push_eliminator(text, b"max(", *score),
+        Leaf::Min(score) => push_eliminator(text, b"min(", *score),
+        Leaf::Below(score) => push_eliminator(text, b"below(", *score),
+        Leaf::Upto(score) => push_eliminator(text, b"upto(", *score),
+    }
+}
+
+/// Appends a term.
+pub fn push_term(text: &mut Vec<u8>, term: &Term) -> Result<(), AllocError>
+    ensures { OnOk result (text.new.items ≡ text.old.items ++ term_text (tree term.now)) }
+{
+    match term {
+        Term::Leaf(leaf) => push_leaf(text, leaf),
+        Term::Rev(part) => {
+            text.extend_from_slice(b"rev(")?;
+            push_term(text, part)?;
+            text.extend_from_slice(b")")
+        }
+        Term::Seq(first, second) => {
+            text.extend_from_slice(b"seq(")?;
+            push_term(text, first)?;
+            text.extend_from_slice(b",")?;
+            push_term(text, second)?;
+            text.extend_from_slice(b")")
+        }
+        Term::Par(first, second) => {
+            text.extend_from_slice(b"par(")?;
+            push_term(text, first)?;
+            text.extend_from_slice(b",")?;
+            push_term(text, second)?;
+            text.extend_from_slice(b")")
+        }
+        Term::Loop { k, body } => {
+            text.extend_from_slice(b"loop(")?;
+            push_number(text, *k)?;
+            text.extend_from_slice(b",")?;
+            push_term(text, body)?;
+            text.extend_from_slice(b")")
+        }
+    }
+}
