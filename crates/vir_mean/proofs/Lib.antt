@@ -1,4 +1,12 @@
-pub mod WeightLemmas
-pub mod MemberLemmas
-pub mod WinnerLemmas
+pub mod EliminatedSplits
+pub mod FoundMembers
+pub mod LoopLaws
 pub mod MeaningLaws
+pub mod MemberCounts
+pub mod MemberListings
+pub mod MemberLists
+pub mod PairScores
+pub mod RestrictionLemmas
+pub mod ScoreSizes
+pub mod ScoreSums
+pub mod WeightLemmas

@@ -1,6 +1,13 @@
+pub mod Listings
+pub mod Scores
+pub mod Eliminators
+pub mod FixedOrders
 pub mod Modules
 pub mod Compositions
 pub mod Meaning
+pub mod Numbers
+pub mod Members
+pub mod Extremes
 pub use Rattle.vir_altset.specs.Sets
 pub use Rattle.vir_altset.specs.Splits
 pub use Rattle.vir_profile.specs.Profiles

@@ -1,10 +1,11 @@
-// The compositions.
+// What compositions make of the splits of their parts.
 ghost use Rattle.std.specs.Prelude.{◌≡◌};
-ghost use Rattle.vir_mean.specs.Compositions.{joined};
+ghost use Rattle.std.specs.FinSet as set;
+ghost use Rattle.vir_mean.specs.Compositions.{joined, merged};
 
-use vir_profile::Split;
+use vir_profile::{AltSet, Split};
 
-/// A split, and one of what it defers, as one.
+/// A split of a set, and one of what it defers, as one split of the set.
 pub fn joined(first: &Split, second: &Split) -> Split
     ensures { result ≡ joined first.now second.now }
 {
@@ -12,5 +13,29 @@ pub fn joined(first: &Split, second: &Split) -> Split
         elected: first.elected.union(&second.elected),
         rejected: first.rejected.union(&second.rejected),
         deferred: second.deferred,
+    }
+}
+
+/// Two splits of one set as one: elected by one of them, rejected by both, and else deferred.
+pub fn merged(first: &Split, second: &Split) -> Split
+    ensures { result ≡ merged first.now second.now }
+{
+    let elected = first.elected.union(&second.elected);
+    Split {
+        elected,
+        rejected: first.rejected.inter(&second.rejected),
+        deferred: first.deferred.union(&second.deferred).minus(&elected),
+    }
+}
+
+/// What is made of a split of a set where it is revised: those elected are deferred, and the other
+/// members of the set are rejected.
+pub fn revised(split: &Split, domain: &AltSet) -> Split
+    ensures { result ≡ record { elected = set.empty; rejected = set.difference domain.now split.now.elected; deferred = split.now.elected } }
+{
+    Split {
+        elected: AltSet::empty(),
+        rejected: domain.minus(&split.elected),
+        deferred: split.elected,
     }
 }

@@ -1,10 +1,12 @@
 // What holds of meanings on profiles of every size. Each law is the contract of a function that does nothing.
-ghost use Rattle.std.specs.Prelude.{◌≡◌, List};
+ghost use Rattle.std.specs.Prelude.{◌≡◌, ℕ, List};
 ghost use Rattle.std.specs.FinSet as set;
 ghost use Rattle.vir_altset.specs.Sets.{Set};
 ghost use Rattle.vir_altset.specs.Splits.{IsSplitOf};
 ghost use Rattle.vir_profile.specs.declared.ballot.Entry.{Entry};
-ghost use Rattle.vir_term.specs.Tree.{Tree};
+ghost use Rattle.vir_term.specs.Tree.{Tree, loop};
+ghost use Rattle.vir_mean.specs.Modules.{all_deferred};
+ghost use Rattle.vir_mean.specs.Compositions.{turn};
 ghost use Rattle.vir_mean.specs.Meaning.{mean};
 
 /// The meaning of each term splits each set: no alternative is in two of the three sets, and together
@@ -17,4 +19,16 @@ pub fn meanings_are_splits()
 pub fn nothing_is_split_into_nothing()
     ensures { (t : Tree) (lines : List Entry)
         → mean t set.empty lines ≡ record { elected = set.empty; rejected = set.empty; deferred = set.empty } }
+{}
+
+/// A loop is one turn, and then the loop again: no number of turns cuts it short.
+pub fn loop_goes_by_turns()
+    ensures { (k : ℕ) (body : Tree) (a : Set) (lines : List Entry)
+        → mean (loop k body) a lines ≡ turn k (mean body) (mean (loop k body)) a lines }
+{}
+
+/// A loop leaves a set of as many alternatives as it is to end with as it is.
+pub fn loop_of_k_alternatives_stops()
+    ensures { (k : ℕ) (body : Tree) (a : Set) (lines : List Entry)
+        → set.len a ≡ k → mean (loop k body) a lines ≡ all_deferred a lines }
 {}

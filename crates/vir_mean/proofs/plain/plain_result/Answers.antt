@@ -25,4 +25,4 @@ returns-then-equals-clause-split c =
 
 pub returns-clause-split : goal.returns-clause-split
 returns-clause-split c =
-    answered_split c.term_result-2.result (tree c.args.term.now) c.args.domain.now c.in_ok-lines.lines.items (rw c.deref.ensures.value at c.term_result-2.ensures)
+    answered_split c.restricted_result.result (tree c.args.term.now) c.args.domain.now (restrict c.args.domain.now c.entries-2.result.now) c.restricted_result.ensures
