@@ -1,0 +1,15 @@
+pub mod TypingLemmas
+pub mod TypingWeights
+pub mod LimitLemmas
+pub mod RunLemmas
+pub mod StepLemmas
+pub mod FrontLemmas
+pub mod ListedLemmas
+pub mod TreeLemmas
+pub mod RawLemmas
+pub mod BeginLemmas
+pub mod RoundTripTyping
+pub mod RoundTripTrees
+pub mod RoundTripTokens
+pub mod RoundTripWhole
+pub mod RoundTripLengths

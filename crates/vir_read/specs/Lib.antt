@@ -1,0 +1,14 @@
+pub mod Faults
+pub mod Tokens
+pub mod Symbols
+pub mod RawTrees
+pub mod Grammar
+pub mod BuiltIns
+pub mod Arguments
+pub mod Typing
+pub mod Built
+pub mod Steps
+pub mod Kinds
+pub mod Spelling
+pub mod Pieces
+pub mod Printed

@@ -1,0 +1,150 @@
+// What is kept of a term while a text is judged. A name costs a few bytes wherever it stands, but the term
+// that it stands for may be large, so that a term past the limit is not built.
+ghost use Rattle.std.specs.Prelude.{◌≡◌, ◌∷◌, [], length, MatchOption, Ok};
+ghost use Rattle.vir_term.specs.Tree.{Tree, tree, leaf, rev, loop};
+ghost use Rattle.vir_read.specs.RawTrees.{raw_tree, listed};
+ghost use Rattle.vir_read.specs.Typing.{pair_tree};
+ghost use Rattle.vir_read.specs.Built.{IsKeptOf, Builds};
+
+use crate::built_in::Pair;
+use crate::raw::{Raw, RawList};
+use crate::text_fault::TextError;
+use std::alloc::Global;
+use vir_term::{Leaf, SIZE_LIMIT, Term};
+
+/// What is kept of a term.
+#[derive(Drop)]
+pub enum Built {
+    /// The term, and its size, which is within the limit.
+    Small { term: Term, size: u32 },
+    /// Only that its size is not.
+    Large,
+}
+
+// A module.
+pub fn leaf_built(electoral_module: Leaf) -> Result<Built, TextError>
+    ensures { Builds result (Ok (leaf electoral_module)) }
+{
+    Ok(Built::Small {
+        term: Term::Leaf(electoral_module),
+        size: 1,
+    })
+}
+
+// A composition of one term.
+pub fn rev_built(alloc: Global, part: Built) -> Result<Built, TextError>
+    ensures { (t : Tree) → IsKeptOf part t → Builds result (Ok (rev t)) }
+{
+    let Built::Small { term, size } = part else {
+        return Ok(Built::Large);
+    };
+    if size >= SIZE_LIMIT {
+        return Ok(Built::Large);
+    }
+    match Box::new(alloc, term) {
+        Ok(part) => Ok(Built::Small {
+            term: Term::Rev(part),
+            size: size + 1,
+        }),
+        Err(_) => Err(TextError::Memory),
+    }
+}
+
+// A composition of a number and a term.
+pub fn loop_built(alloc: Global, k: u32, body: Built) -> Result<Built, TextError>
+    ensures { (t : Tree) → IsKeptOf body t → Builds result (Ok (loop k t)) }
+{
+    let Built::Small { term, size } = body else {
+        return Ok(Built::Large);
+    };
+    if size >= SIZE_LIMIT {
+        return Ok(Built::Large);
+    }
+    match Box::new(alloc, term) {
+        Ok(body) => Ok(Built::Small {
+            term: Term::Loop { k, body },
+            size: size + 1,
+        }),
+        Err(_) => Err(TextError::Memory),
+    }
+}
+
+// A composition of two terms.
+fn pair_term(pair: Pair, first: Box<Term>, second: Box<Term>) -> Term
+    ensures { tree result ≡ pair_tree pair (tree first.value) (tree second.value) }
+{
+    match pair {
+        Pair::Seq => Term::Seq(first, second),
+        Pair::Par => Term::Par(first, second),
+    }
+}
+
+// The same of what is kept of the terms.
+#[tactic(auto, using(crate::proofs::TypingLemmas::pair_size))]
+pub fn pair_built(
+    alloc: Global,
+    pair: Pair,
+    first: Built,
+    second: Built,
+) -> Result<Built, TextError>
+    ensures { (s t : Tree) → IsKeptOf first s → IsKeptOf second t → Builds result (Ok (pair_tree pair s t)) }
+{
+    let Built::Small {
+        term: first,
+        size: n,
+    } = first
+    else {
+        return Ok(Built::Large);
+    };
+    let Built::Small {
+        term: second,
+        size: m,
+    } = second
+    else {
+        return Ok(Built::Large);
+    };
+    if n.saturating_add(m) >= SIZE_LIMIT {
+        return Ok(Built::Large);
+    }
+    match Box::new(alloc, first) {
+        Ok(first) => match Box::new(alloc, second) {
+            Ok(second) => Ok(Built::Small {
+                term: pair_term(pair, first, second),
+                size: n + m + 1,
+            }),
+            Err(_) => Err(TextError::Memory),
+        },
+        Err(_) => Err(TextError::Memory),
+    }
+}
+
+// The one tree of a list, where it is one.
+#[tactic(auto, using(crate::proofs::TypingLemmas::one_of, crate::proofs::TypingLemmas::not_gone))]
+pub fn one(parts: &RawList) -> Option<&Raw>
+    ensures { MatchOption result (length (listed parts.now) ≡ 1 → ⊥) (λ raw. listed parts.now ≡ raw_tree raw.now ∷ []) }
+{
+    if parts.len() != 1 {
+        return None;
+    }
+    let Some(raw) = parts.at(0) else {
+        return None;
+    };
+    Some(raw)
+}
+
+// The two trees of a list, where these are two.
+#[tactic(auto, using(crate::proofs::TypingLemmas::two_of, crate::proofs::TypingLemmas::not_gone))]
+pub fn two(parts: &RawList) -> Option<(&Raw, &Raw)>
+    ensures { MatchOption result (length (listed parts.now) ≡ 2 → ⊥) (λ raws. listed parts.now ≡ raw_tree raws.0.now ∷ raw_tree raws.1.now ∷ []) }
+{
+    if parts.len() != 2 {
+        return None;
+    }
+    let Some(first) = parts.at(0) else {
+        return None;
+    };
+    let Some(second) = parts.at(1) else {
+        return None;
+    };
+    Some((first, second))
+}

@@ -1,0 +1,68 @@
+ghost use Rattle.std.specs.Prelude.{◌≡◌, length, slice_get, [], ◌∷◌, ◌++◌, OnOk, OnErr, option_map};
+ghost use Rattle.vir_read.specs.RawTrees.{raw_tree, listed};
+
+use std::alloc::{AllocError, Global};
+
+/// A tree of a text before it is known what it stands for. Places are those of the text's bytes.
+#[cycle(raw)]
+#[derive(Debug, Drop)]
+pub enum Raw {
+    /// A word, from `start` to before `end`, and the trees in the parentheses behind it. A word without
+    /// parentheses has none.
+    Word {
+        start: usize,
+        end: usize,
+        parts: RawList,
+    },
+    /// A number, from `start` to before `end`.
+    Number {
+        start: usize,
+        end: usize,
+    },
+    /// A list in brackets, whose opening sign is at `start`. Its members are numbers.
+    List {
+        start: usize,
+        members: RawList,
+    },
+}
+
+/// A list of trees.
+#[cycle(raw)]
+#[derive(Debug, Drop)]
+pub struct RawList {
+    trees: Vec<Raw>,
+}
+
+impl RawList {
+    // No trees.
+    pub(crate) fn new(alloc: Global) -> RawList
+        ensures { listed result ≡ [] }
+    {
+        RawList {
+            trees: Vec::new(alloc),
+        }
+    }
+
+    // Appends a tree.
+    pub(crate) fn push(&mut self, raw: Raw) -> Result<(), AllocError>
+        ensures pushed { OnOk result (listed self.new ≡ listed self.old ++ raw_tree raw ∷ []) }
+        ensures unchanged { OnErr result (listed self.new ≡ listed self.old) }
+    {
+        self.trees.push(raw)?;
+        Ok(())
+    }
+
+    /// How many trees there are.
+    pub fn len(&self) -> usize
+        ensures { result ≡ length (listed self.now) }
+    {
+        self.trees.len()
+    }
+
+    /// The tree at an index, the first one at 0; none exactly where the index isn't below the length.
+    pub fn at(&self, i: usize) -> Option<&Raw>
+        ensures { option_map (λ raw. raw_tree raw.now) result ≡ slice_get (listed self.now) i }
+    {
+        self.trees.get(i)
+    }
+}

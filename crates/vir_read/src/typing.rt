@@ -1,0 +1,382 @@
+// The term that a tree stands for.
+ghost use Rattle.std.specs.Prelude.{◌≡◌, ◌≤◌, ◌+◌, [], length, IsTrue, IfOk};
+ghost use Rattle.vir_term.specs.Tree.{tree};
+ghost use Rattle.vir_term.specs.Limits.{nesting_limit, IsWithinLimits};
+ghost use Rattle.vir_read.specs.Faults.{Gives};
+ghost use Rattle.vir_read.specs.RawTrees.{raw_tree, listed, gathered};
+ghost use Rattle.vir_read.specs.BuiltIns.{built_in_named, takes};
+ghost use Rattle.vir_read.specs.Arguments.{AreWithinLimits};
+ghost use Rattle.vir_read.specs.Typing as typing;
+ghost use Rattle.vir_read.specs.Typing.{composed, arguments_of, built_in, defined, word_typed, typed, term_of, first_place};
+ghost use Rattle.vir_read.specs.Built.{Builds};
+
+use crate::arguments::{count_of, order_of, score_of, span};
+use crate::built::{Built, leaf_built, loop_built, one, pair_built, rev_built, two};
+use crate::built_in::{BuiltIn, Eliminator, Ordered, Pair, Plain, built_in_named};
+use crate::names::Names;
+use crate::raw::{Raw, RawList};
+use crate::text_fault::{TextError, TextKind};
+use std::alloc::Global;
+use vir_term::{FixedOrder, Leaf, NESTING_LIMIT, Score, Term};
+
+fn plain_leaf(plain: Plain) -> Leaf
+    ensures { result ≡ typing.plain_leaf plain }
+{
+    match plain {
+        Plain::Elect => Leaf::Elect,
+        Plain::Defer => Leaf::Defer,
+        Plain::Plurality => Leaf::Plurality,
+    }
+}
+
+fn ordered_leaf(ordered: Ordered, k: u32, order: FixedOrder) -> Leaf
+    ensures { result ≡ typing.ordered_leaf ordered k order }
+{
+    match ordered {
+        Ordered::Pass => Leaf::PassFirst { k, order },
+        Ordered::Drop => Leaf::DropFirst { k, order },
+    }
+}
+
+fn eliminator_leaf(eliminator: Eliminator, score: Score) -> Leaf
+    ensures { result ≡ typing.eliminator_leaf eliminator score }
+{
+    match eliminator {
+        Eliminator::Max => Leaf::Max(score),
+        Eliminator::Min => Leaf::Min(score),
+        Eliminator::Below => Leaf::Below(score),
+        Eliminator::Upto => Leaf::Upto(score),
+    }
+}
+
+// The order of the numbers.
+fn no_order(alloc: Global) -> FixedOrder
+    ensures { result ≡ [] }
+{
+    match FixedOrder::of(Vec::new(alloc)) {
+        Ok(order) => order,
+        Err(_) => unreachable!(),
+    }
+}
+
+// A module with a number and, if wanted, a fixed order.
+fn ordered_built<M: Names>(
+    alloc: Global,
+    text: &[u8],
+    ordered: Ordered,
+    parts: &RawList,
+    names: &M,
+    level: u32,
+    at: usize,
+) -> Result<Built, TextError>
+    requires { IsTrue (takes (BuiltIn.Ordered ordered) (length (listed parts.now))) }
+    ensures { Builds result (composed text.now (M.meaning names.now) at level (BuiltIn.Ordered ordered) (arguments_of text.now (M.meaning names.now) (gathered (listed parts.now)))) }
+{
+    if let Some(k) = one(parts) {
+        return match count_of(text, k) {
+            Ok(k) => leaf_built(ordered_leaf(ordered, k, no_order(alloc))),
+            Err(e) => Err(e),
+        };
+    }
+    match two(parts) {
+        Some((k, order)) => match count_of(text, k) {
+            Ok(k) => match order_of(alloc, text, order) {
+                Ok(order) => leaf_built(ordered_leaf(ordered, k, order)),
+                Err(e) => Err(e),
+            },
+            Err(e) => Err(e),
+        },
+        None => unreachable!(),
+    }
+}
+
+// A module with a score.
+fn eliminator_built<M: Names>(
+    text: &[u8],
+    eliminator: Eliminator,
+    parts: &RawList,
+    names: &M,
+    level: u32,
+    at: usize,
+) -> Result<Built, TextError>
+    requires { length (listed parts.now) ≡ 1 }
+    ensures { Builds result (composed text.now (M.meaning names.now) at level (BuiltIn.Eliminator eliminator) (arguments_of text.now (M.meaning names.now) (gathered (listed parts.now)))) }
+{
+    match one(parts) {
+        Some(score) => match score_of(text, names, score) {
+            Ok(score) => leaf_built(eliminator_leaf(eliminator, score)),
+            Err(e) => Err(e),
+        },
+        None => unreachable!(),
+    }
+}
+
+// The term of a defined name.
+fn defined_built<M: Names>(
+    alloc: Global,
+    name: &[u8],
+    count: usize,
+    names: &M,
+    level: u32,
+    at: usize,
+) -> Result<Built, TextError>
+    requires level { level ≤ nesting_limit + 1 }
+    requires names { AreWithinLimits (M.meaning names.now) }
+    ensures { Builds result (defined at level count (M.meaning names.now name.now)) }
+{
+    match names.find(name) {
+        None => Err(TextError::fault(TextKind::UnknownName, at)),
+        Some(term) => {
+            if count != 0 {
+                return Err(TextError::fault(TextKind::WrongCountOfArguments, at));
+            }
+            if !term.nests_within(NESTING_LIMIT + 1 - level) {
+                return Err(TextError::fault(TextKind::TooDeep, at));
+            }
+            let size = term.size();
+            match term.copy(alloc) {
+                Ok(term) => Ok(Built::Small { term, size }),
+                Err(_) => Err(TextError::Memory),
+            }
+        }
+    }
+}
+
+#[cycle(typing)]
+fn rev_of<M: Names>(
+    alloc: Global,
+    text: &[u8],
+    parts: &RawList,
+    names: &M,
+    level: u32,
+    at: usize,
+) -> Result<Built, TextError>
+    requires one { length (listed parts.now) ≡ 1 }
+    requires level { level ≤ nesting_limit }
+    requires names { AreWithinLimits (M.meaning names.now) }
+    ensures { Builds result (composed text.now (M.meaning names.now) at level BuiltIn.Rev (arguments_of text.now (M.meaning names.now) (gathered (listed parts.now)))) }
+{
+    match one(parts) {
+        Some(part) => match typed(alloc, text, part, names, level + 1) {
+            Ok(part) => rev_built(alloc, part),
+            Err(e) => Err(e),
+        },
+        None => unreachable!(),
+    }
+}
+
+#[cycle(typing)]
+fn loop_of<M: Names>(
+    alloc: Global,
+    text: &[u8],
+    parts: &RawList,
+    names: &M,
+    level: u32,
+    at: usize,
+) -> Result<Built, TextError>
+    requires two { length (listed parts.now) ≡ 2 }
+    requires level { level ≤ nesting_limit }
+    requires names { AreWithinLimits (M.meaning names.now) }
+    ensures { Builds result (composed text.now (M.meaning names.now) at level BuiltIn.Loop (arguments_of text.now (M.meaning names.now) (gathered (listed parts.now)))) }
+{
+    match two(parts) {
+        Some((k, body)) => match count_of(text, k) {
+            Ok(k) => match typed(alloc, text, body, names, level + 1) {
+                Ok(body) => loop_built(alloc, k, body),
+                Err(e) => Err(e),
+            },
+            Err(e) => Err(e),
+        },
+        None => unreachable!(),
+    }
+}
+
+#[cycle(typing)]
+fn pair_of<M: Names>(
+    alloc: Global,
+    text: &[u8],
+    pair: Pair,
+    parts: &RawList,
+    names: &M,
+    level: u32,
+    at: usize,
+) -> Result<Built, TextError>
+    requires two { length (listed parts.now) ≡ 2 }
+    requires level { level ≤ nesting_limit }
+    requires names { AreWithinLimits (M.meaning names.now) }
+    ensures { Builds result (composed text.now (M.meaning names.now) at level (BuiltIn.Pair pair) (arguments_of text.now (M.meaning names.now) (gathered (listed parts.now)))) }
+{
+    match two(parts) {
+        Some((first, second)) => match typed(alloc, text, first, names, level + 1) {
+            Ok(first) => match typed(alloc, text, second, names, level + 1) {
+                Ok(second) => pair_built(alloc, pair, first, second),
+                Err(e) => Err(e),
+            },
+            Err(e) => Err(e),
+        },
+        None => unreachable!(),
+    }
+}
+
+// A built-in word with as many arguments as it takes, which is not too deep.
+#[cycle(typing)]
+fn composed<M: Names>(
+    alloc: Global,
+    text: &[u8],
+    word: BuiltIn,
+    parts: &RawList,
+    names: &M,
+    level: u32,
+    at: usize,
+) -> Result<Built, TextError>
+    requires takes { IsTrue (takes word (length (listed parts.now))) }
+    requires level { level ≤ nesting_limit }
+    requires names { AreWithinLimits (M.meaning names.now) }
+    ensures { Builds result (composed text.now (M.meaning names.now) at level word (arguments_of text.now (M.meaning names.now) (gathered (listed parts.now)))) }
+{
+    match word {
+        BuiltIn::Plain(plain) => leaf_built(plain_leaf(plain)),
+        BuiltIn::Ordered(ordered) => ordered_built(alloc, text, ordered, parts, names, level, at),
+        BuiltIn::Eliminator(eliminator) => {
+            eliminator_built(text, eliminator, parts, names, level, at)
+        }
+        BuiltIn::Rev => rev_of(alloc, text, parts, names, level, at),
+        BuiltIn::Pair(pair) => pair_of(alloc, text, pair, parts, names, level, at),
+        BuiltIn::Loop => loop_of(alloc, text, parts, names, level, at),
+        BuiltIn::OnlyScore(_) => unreachable!(),
+    }
+}
+
+#[cycle(typing)]
+#[tactic(auto, using(crate::proofs::TypingLemmas::length_arguments_of))]
+fn built_in<M: Names>(
+    alloc: Global,
+    text: &[u8],
+    word: BuiltIn,
+    parts: &RawList,
+    names: &M,
+    level: u32,
+    at: usize,
+) -> Result<Built, TextError>
+    requires level { level ≤ nesting_limit + 1 }
+    requires names { AreWithinLimits (M.meaning names.now) }
+    ensures { Builds result (built_in text.now (M.meaning names.now) at level word (arguments_of text.now (M.meaning names.now) (gathered (listed parts.now)))) }
+{
+    if word.is_only_score() {
+        return Err(TextError::fault(TextKind::WrongSort, at));
+    }
+    if !word.takes(parts.len()) {
+        return Err(TextError::fault(TextKind::WrongCountOfArguments, at));
+    }
+    if level > NESTING_LIMIT {
+        return Err(TextError::fault(TextKind::TooDeep, at));
+    }
+    composed(alloc, text, word, parts, names, level, at)
+}
+
+#[cycle(typing)]
+#[tactic(auto, using(crate::proofs::TypingLemmas::length_arguments_of))]
+fn word_typed<M: Names>(
+    alloc: Global,
+    text: &[u8],
+    name: &[u8],
+    parts: &RawList,
+    names: &M,
+    level: u32,
+    at: usize,
+) -> Result<Built, TextError>
+    requires level { level ≤ nesting_limit + 1 }
+    requires names { AreWithinLimits (M.meaning names.now) }
+    ensures { Builds result (word_typed text.now (M.meaning names.now) at level name.now (arguments_of text.now (M.meaning names.now) (gathered (listed parts.now))) (built_in_named name.now)) }
+{
+    match built_in_named(name) {
+        Some(word) => built_in(alloc, text, word, parts, names, level, at),
+        None => defined_built(alloc, name, parts.len(), names, level, at),
+    }
+}
+
+// What is kept of the term of a tree, where a term is wanted at a level of nesting.
+#[cycle(typing)]
+fn typed<M: Names>(
+    alloc: Global,
+    text: &[u8],
+    raw: &Raw,
+    names: &M,
+    level: u32,
+) -> Result<Built, TextError>
+    requires level { level ≤ nesting_limit + 1 }
+    requires names { AreWithinLimits (M.meaning names.now) }
+    ensures { Builds result (typed text.now (M.meaning names.now) (raw_tree raw.now) level) }
+{
+    match raw {
+        Raw::Number { start, .. } => Err(TextError::fault(TextKind::WrongSort, *start)),
+        Raw::List { start, .. } => Err(TextError::fault(TextKind::WrongSort, *start)),
+        Raw::Word { start, end, parts } => word_typed(
+            alloc,
+            text,
+            span(text, *start, *end),
+            parts,
+            names,
+            level,
+            *start,
+        ),
+    }
+}
+
+// The term of a tree, without a word on its limits.
+fn judged<M: Names>(
+    alloc: Global,
+    text: &[u8],
+    raw: &Raw,
+    names: &M,
+    at: usize,
+) -> Result<Term, TextError>
+    requires { AreWithinLimits (M.meaning names.now) }
+    ensures { Gives tree result (term_of text.now (M.meaning names.now) at (raw_tree raw.now)) }
+{
+    match typed(alloc, text, raw, names, 1) {
+        Ok(Built::Small { term, .. }) => Ok(term),
+        Ok(Built::Large) => Err(TextError::fault(TextKind::TooLarge, at)),
+        Err(e) => Err(e),
+    }
+}
+
+/// The term that a tree stands for, or its first fault in preorder; last that the term is too large, which
+/// is told at the place `at`.
+pub fn type_term_at<M: Names>(
+    alloc: Global,
+    text: &[u8],
+    raw: &Raw,
+    names: &M,
+    at: usize,
+) -> Result<Term, TextError>
+    requires { AreWithinLimits (M.meaning names.now) }
+    ensures meant { Gives tree result (term_of text.now (M.meaning names.now) at (raw_tree raw.now)) }
+    ensures within { IfOk result (λ term. IsWithinLimits (tree term)) }
+{
+    judged(alloc, text, raw, names, at)
+}
+
+fn first_place(raw: &Raw) -> usize
+    ensures { result ≡ first_place (raw_tree raw.now) }
+{
+    match raw {
+        Raw::Word { start, .. } => *start,
+        Raw::Number { start, .. } => *start,
+        Raw::List { start, .. } => *start,
+    }
+}
+
+/// The same; that the term is too large is told where the tree begins.
+pub fn type_term<M: Names>(
+    alloc: Global,
+    text: &[u8],
+    raw: &Raw,
+    names: &M,
+) -> Result<Term, TextError>
+    requires { AreWithinLimits (M.meaning names.now) }
+    ensures meant { Gives tree result (term_of text.now (M.meaning names.now) (first_place (raw_tree raw.now)) (raw_tree raw.now)) }
+    ensures within { IfOk result (λ term. IsWithinLimits (tree term)) }
+{
+    type_term_at(alloc, text, raw, names, first_place(raw))
+}
