@@ -1,0 +1,4 @@
+pub mod Books
+pub mod Entries
+pub mod Listing
+pub mod Printed

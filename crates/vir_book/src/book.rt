@@ -1,0 +1,164 @@
+// Rule files.
+ghost use Rattle.std.specs.Prelude.{◌≡◌, ◌-◌, ◌≤◌, ◌∷◌, [], None, Some, Ok, IfOk, IfSome, option_map, length, slice_get, ℕ};
+ghost use Rattle.vir_term.specs.Tree.{tree};
+ghost use Rattle.vir_term.specs.Limits.{IsWithinLimits};
+ghost use Rattle.vir_read.specs.Faults.{Gives};
+ghost use Rattle.vir_read.specs.Arguments.{AreWithinLimits};
+ghost use Rattle.vir_book.specs.Books.{lookup, entry, new_term, with_definition, entries_of, last_term, AllWithinLimits, filled, book_of};
+ghost use Rattle.vir_book.specs.Entries.{entries};
+ghost use Rattle.vir_book.specs.Listing.{listing, written};
+
+use crate::definition::{Definition, read_definition};
+use crate::entries::Entries;
+use crate::filled::Filled;
+use std::alloc::Global;
+use vir_read::{Names, TextError, TextKind, Token, is_known, span, tokens, type_term_at};
+use vir_term::Term;
+
+/// How many bytes a text may have.
+pub const TEXT_LIMIT: usize = 1_048_576;
+
+/// The names of a rule file and their terms, at least one.
+#[derive(Drop)]
+pub struct Book {
+    filled: Filled,
+}
+
+impl Book {
+    /// The term of a name, where it is defined.
+    pub fn get(&self, name: &[u8]) -> Option<&Term>
+        ensures { option_map (λ term. tree term.now) result ≡ lookup (listing self.now) name.now }
+    {
+        self.filled.found.get(name)
+    }
+
+    /// The term of the last definition.
+    pub fn last_rule(&self) -> &Term
+        ensures last { last_term (listing self.now) ≡ Ok (tree result.now) }
+        ensures within { IsWithinLimits (tree result.now) }
+    {
+        match self.filled.found.last() {
+            Some(term) => term,
+            None => unreachable!(),
+        }
+    }
+}
+
+impl Names for Book {
+    ghost use Rattle.vir_book.specs.Books.{lookup};
+    ghost use Rattle.vir_book.specs.Listing.{listing};
+
+    ghost meaning = { λ book. lookup (listing book) };
+
+    fn find(&self, name: &[u8]) -> Option<&Term> {
+        self.get(name)
+    }
+}
+
+// The term of a definition, whose name must be new.
+#[tactic(auto, using(crate::proofs::BookLemmas::lookup_unknown))]
+fn term_of_definition(
+    alloc: Global,
+    text: &[u8],
+    found: &Entries,
+    name: &[u8],
+    definition: &Definition,
+) -> Result<Term, TextError>
+    requires { AllWithinLimits (entries found.now) }
+    ensures exact { Gives tree result (new_term text.now (entries found.now) name.now (written definition.now)) }
+    ensures new { IfOk result (λ term. (lookup (entries found.now) name.now ≡ None) × IsWithinLimits (tree term)) }
+{
+    let at = definition.name.start;
+    if is_known(found, name) {
+        return Err(TextError::fault(TextKind::NameTwice, at));
+    }
+    type_term_at(alloc, text, &definition.raw, found, at)
+}
+
+// The entries with that of a definition behind them.
+fn with_definition(
+    alloc: Global,
+    text: &[u8],
+    found: Entries,
+    definition: &Definition,
+) -> Result<Entries, TextError>
+    requires { AllWithinLimits (entries found) }
+    ensures exact { Gives (λ after. entries after) result (with_definition text.now (entries found) (written definition.now)) }
+    ensures within { IfOk result (λ after. AllWithinLimits (entries after)) }
+{
+    let mut found = found;
+    let name = span(text, definition.name.start, definition.name.end);
+    let term = match term_of_definition(alloc, text, &found, name, definition) {
+        Ok(term) => term,
+        Err(e) => return Err(e),
+    };
+    let Ok(name) = Vec::from_slice(alloc, name) else {
+        return Err(TextError::Memory);
+    };
+    match found.add(name, term) {
+        Ok(()) => Ok(found),
+        Err(_) => Err(TextError::Memory),
+    }
+}
+
+// The entries of the definitions that these tokens are.
+fn entries_of(alloc: Global, text: &[u8], list: &[Token]) -> Result<Entries, TextError>
+    ensures exact { Gives (λ found. entries found) result (entries_of (length list.now) text.now [] list.now) }
+    ensures within { IfOk result (λ found. AllWithinLimits (entries found)) }
+{
+    let mut found = Entries::new(alloc);
+    let mut at = 0;
+    for _ in 0..list.len() {
+        if at >= list.len() {
+            return Ok(found);
+        }
+        let definition = match read_definition(alloc, text, list, at) {
+            Ok(definition) => definition,
+            Err(e) => return Err(e),
+        };
+        found = match with_definition(alloc, text, found, &definition) {
+            Ok(after) => after,
+            Err(e) => return Err(e),
+        };
+        at = definition.next;
+    }
+    Ok(found)
+}
+
+// The same, and any number of definitions that is not below that of the tokens would be enough.
+fn all_entries(alloc: Global, text: &[u8], list: &[Token]) -> Result<Entries, TextError>
+    ensures exact { Gives (λ found. entries found) result (entries_of (length list.now) text.now [] list.now) }
+    ensures enough { (most : ℕ) → length list.now ≤ most → Gives (λ found. entries found) result (entries_of most text.now [] list.now) }
+    ensures within { IfOk result (λ found. AllWithinLimits (entries found)) }
+{
+    entries_of(alloc, text, list)
+}
+
+// The book of these entries.
+fn filled(found: Entries) -> Result<Book, TextError>
+    requires { AllWithinLimits (entries found) }
+    ensures exact { Gives listing result (filled (entries found)) }
+    ensures within { IfOk result (λ book. AreWithinLimits (lookup (listing book))) }
+{
+    if found.len() == 0 {
+        return Err(TextError::fault(TextKind::EmptyBook, 0));
+    }
+    Ok(Book {
+        filled: Filled { found },
+    })
+}
+
+/// The book of a rule file, or its first fault: of a text longer than `TEXT_LIMIT`, of a byte that belongs
+/// to no token, or of the first definition that has one. In a definition the grammar comes first, then that
+/// its name is new, then its term; that this is too large is told at the name.
+pub fn read_book(alloc: Global, text: &[u8]) -> Result<Book, TextError>
+    ensures exact { Gives listing result (book_of text.now) }
+    ensures within { IfOk result (λ book. AreWithinLimits (lookup (listing book))) }
+{
+    if text.len() > TEXT_LIMIT {
+        return Err(TextError::fault(TextKind::TextTooLong, TEXT_LIMIT));
+    }
+    let list = tokens(alloc, text)?;
+    let found = all_entries(alloc, text, &list)?;
+    filled(found)
+}

@@ -1,0 +1,20 @@
+//! Rule files: the named terms of a text.
+//!
+//! A rule file is a list of definitions `name = term;`, each of which may use the names before it. This
+//! layer's one contract is that of `read_book`: what it gives is what the language says of the text
+//! (`specs/Books.antt`), a book that lists each name with its term, in the order of the definitions, or the
+//! text's first fault and its place. A book finds the term of a name, and each of its terms is within the
+//! limits. What is printed is read as what it was printed from (`laws.rt`). It stands on `vir_read` for tokens,
+//! trees and terms, and on `indexmap`.
+#![tactic(auto)]
+
+mod book;
+mod definition;
+mod entries;
+mod filled;
+mod laws;
+#[cfg(test)]
+mod tests;
+
+pub use book::{Book, TEXT_LIMIT, read_book};
+pub use laws::{printed_books_are_read, printed_rules_are_read};

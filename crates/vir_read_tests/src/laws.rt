@@ -1,0 +1,15 @@
+// The laws of the language can be called.
+use vir_read::{
+    pieces_are_read, printed_definitions_are_read, printed_terms_are_read, printed_terms_are_short,
+    spelled_terms_are_typed, terms_are_pieces,
+};
+
+#[test]
+fn laws_can_be_called() {
+    terms_are_pieces();
+    pieces_are_read();
+    spelled_terms_are_typed();
+    printed_terms_are_read();
+    printed_definitions_are_read();
+    printed_terms_are_short();
+}
