@@ -1,0 +1,4 @@
+pub mod Cells
+pub mod FirstPlaces
+pub mod Lines
+pub mod RankedPairs

@@ -1,0 +1,4 @@
+pub mod Additions
+pub mod Marks
+pub mod Table
+pub use Rattle.vir_profile.specs.SocFiles

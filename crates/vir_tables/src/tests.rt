@@ -1,0 +1,121 @@
+// What an election tells of small profiles.
+ghost use Rattle.std.specs.Prelude.{◌≤◌};
+ghost use Rattle.vir_profile.specs.SocFiles.{AreNames};
+
+use crate::Election;
+use std::alloc::{AllocError, Global};
+use std::process::Abort;
+use vir_mean::PLACES;
+use vir_profile::{AltSet, Ballot, Entry, LIMIT, Name, NameText, Profile, SocFile};
+
+// Adds a line of this weight and this order.
+fn add(
+    rt: &impl Abort,
+    alloc: Global,
+    profile: &mut Profile,
+    weight: u64,
+    order: &[u16],
+) -> Result<(), AllocError> {
+    let order = Ballot::from_slice(alloc, order)?;
+    let added = profile.add(Entry { weight, order });
+    assert!(rt; added.is_ok());
+    Ok(())
+}
+
+// The election of these lines.
+fn election_of(
+    rt: &impl Abort,
+    alloc: Global,
+    m: u16,
+    lines: &[(u64, &[u16])],
+) -> Result<Election, AllocError>
+    requires { (1 ≤ m) × (m ≤ LIMIT) }
+{
+    let mut profile = Profile::new(alloc, m);
+    for (weight, order) in lines {
+        add(rt, alloc, &mut profile, *weight, order)?;
+    }
+    Election::of(alloc, SocFile::of(profile, Vec::new(alloc)))
+}
+
+// As many voters put x before y.
+#[tactic(auto, using(crate::proofs::RankedPairs::member_of_range))]
+fn expect_pair(rt: &impl Abort, election: &Election, x: u16, y: u16, weight: u64, beats: bool) {
+    let m = election.alternatives();
+    assert!(rt; 1 <= x && x <= m);
+    assert!(rt; 1 <= y && y <= m);
+    assert!(rt; election.prefers(x, y) == weight, "{x} before {y}");
+    assert!(rt; election.beats(x, y) == beats, "{x} before {y}");
+}
+
+// As many voters put the first alternatives first among the members of the set, one after another.
+fn expect_first(rt: &impl Abort, election: &Election, domain: &AltSet, expected: &[u64]) {
+    let mut weights = [0; PLACES];
+    election.first_weights(domain, &mut weights);
+    for i in 0..expected.len().min(PLACES) {
+        assert!(rt; weights[i] == expected[i], "place {i}");
+        assert!(rt;
+            election.first_weight(domain, i as u16 + 1) == expected[i],
+            "place {i}"
+        );
+    }
+}
+
+const LINES: &[(u64, &[u16])] = &[(4, &[1, 2, 3]), (3, &[2, 3, 1]), (2, &[3, 2, 1])];
+
+// Two alternatives, how many voters put the first before the second, and whether it wins.
+const PAIRS: &[(u16, u16, u64, bool)] = &[
+    (1, 2, 4, false),
+    (2, 1, 5, true),
+    (1, 3, 4, false),
+    (3, 1, 5, true),
+    (2, 3, 7, true),
+    (3, 2, 2, false),
+];
+
+#[test]
+fn pairs_of_three_alternatives(rt: HostRuntime) -> Result<(), AllocError> {
+    let election = election_of(&rt, rt.alloc(), 3, LINES)?;
+    assert!(rt; election.alternatives() == 3);
+    assert!(rt; election.voters() == 9);
+    for (x, y, weight, beats) in PAIRS {
+        expect_pair(&rt, &election, *x, *y, *weight, *beats);
+    }
+    Ok(())
+}
+
+#[test]
+fn first_places_of_three_alternatives(rt: HostRuntime) -> Result<(), AllocError> {
+    let election = election_of(&rt, rt.alloc(), 3, LINES)?;
+    expect_first(&rt, &election, &AltSet::all(3), &[4, 3, 2]);
+    expect_first(&rt, &election, &AltSet::all(2), &[4, 5, 0]);
+    expect_first(&rt, &election, &AltSet::empty(), &[0, 0, 0]);
+    Ok(())
+}
+
+#[test]
+fn as_many_voters_as_there_can_be(rt: HostRuntime) -> Result<(), AllocError> {
+    let election = election_of(&rt, rt.alloc(), 2, &[(u64::MAX, &[1, 2])])?;
+    assert!(rt; election.voters() == u64::MAX);
+    expect_pair(&rt, &election, 1, 2, u64::MAX, true);
+    expect_pair(&rt, &election, 2, 1, 0, false);
+    expect_first(&rt, &election, &AltSet::all(2), &[u64::MAX, 0]);
+    Ok(())
+}
+
+// A file without a line, in which the second of three alternatives has a name.
+fn named(alloc: Global) -> Result<SocFile, AllocError> {
+    let text = NameText::of(Vec::from_slice(alloc, b"Anna")?);
+    let mut names = Vec::new(alloc);
+    names.push(Name { number: 2, text })?;
+    Ok(SocFile::of(Profile::new(alloc, 3), names))
+}
+
+#[test]
+fn names_are_kept(rt: HostRuntime) -> Result<(), AllocError> {
+    let election = Election::of(rt.alloc(), named(rt.alloc())?)?;
+    assert!(rt; election.name(2) == Some(b"Anna"));
+    assert!(rt; election.name(1).is_none());
+    assert!(rt; election.voters() == 0);
+    Ok(())
+}
