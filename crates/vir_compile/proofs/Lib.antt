@@ -1,0 +1,10 @@
+pub mod Emitted
+pub mod Sets
+pub mod Meant
+pub mod CallsMeant
+pub mod Bounds
+pub mod Runs
+pub mod Follow
+pub mod Executed
+pub mod Jumps
+pub mod Reached

@@ -1,0 +1,4 @@
+pub mod Exec
+pub mod StepsLeft
+pub mod Calls
+pub mod Laws
