@@ -1,0 +1,100 @@
+// The 27 modules that are shortest to write, on three small profiles.
+use std::alloc::{AllocError, Global};
+use std::process::Abort;
+use std::test::Fail;
+use vir_counter::{Counter, EliminatorCounter, FixedCounter, OrderCounter, PluralityCounter};
+use vir_mean::plain_result;
+use vir_profile::{AltSet, Ballot, Entry, Profile, SocFile};
+use vir_score::KeptScore;
+use vir_tables::Election;
+use vir_term::{FixedOrder, Leaf, Score, Term};
+
+type Votes = &'static [(u64, [u16; 3])];
+
+// One that beats both others, without most first places; a cycle; and a single ballot.
+const PROFILES: &[Votes] = &[
+    &[(4, [1, 2, 3]), (3, [2, 3, 1]), (2, [3, 2, 1])],
+    &[(1, [1, 2, 3]), (1, [2, 3, 1]), (1, [3, 1, 2])],
+    &[(1, [3, 1, 2])],
+];
+
+const SCORES: &[Score] = &[
+    Score::Plurality,
+    Score::Borda,
+    Score::Copeland,
+    Score::Minimax,
+    Score::Condorcet,
+];
+
+fn profile_of(alloc: Global, votes: Votes) -> Result<Profile, Fail> {
+    let mut profile = Profile::new(alloc, 3);
+    for (weight, order) in votes {
+        let order = Ballot::from_slice(alloc, order)?;
+        let weight = *weight;
+        profile
+            .add(Entry { weight, order })
+            .map_err(|refused| refused.fault)?;
+    }
+    Ok(profile)
+}
+
+// The counter and the literally restricted ballots give the same split of all alternatives.
+fn expect_same<C: Counter>(
+    rt: &impl Abort,
+    alloc: Global,
+    counter: &mut C,
+    leaf: Leaf,
+) -> Result<(), Fail> {
+    for votes in PROFILES {
+        let election = Election::of(
+            alloc,
+            SocFile::of(profile_of(alloc, votes)?, Vec::new(alloc)),
+        )?;
+        let domain = AltSet::all(election.alternatives());
+        assert!(rt; counter.serves(&leaf));
+        let counted = counter.split(&leaf, &election, &domain);
+        let term = Term::Leaf(leaf.copy(alloc)?);
+        let meant = plain_result(alloc, &term, &profile_of(alloc, votes)?, &domain)?;
+        assert!(rt; counted.elected.equals(&meant.elected));
+        assert!(rt; counted.rejected.equals(&meant.rejected));
+        assert!(rt; counted.deferred.equals(&meant.deferred));
+    }
+    Ok(())
+}
+
+#[test]
+fn fixed_modules_are_counted_as_they_mean(rt: HostRuntime) -> Result<(), Fail> {
+    let mut counter = FixedCounter::new();
+    expect_same(&rt, rt.alloc(), &mut counter, Leaf::Elect)?;
+    expect_same(&rt, rt.alloc(), &mut counter, Leaf::Defer)?;
+    expect_same(
+        &rt,
+        rt.alloc(),
+        &mut PluralityCounter::new(),
+        Leaf::Plurality,
+    )
+}
+
+#[test]
+fn modules_of_an_order_are_counted_as_they_mean(rt: HostRuntime) -> Result<(), Fail> {
+    let mut counter = OrderCounter::new();
+    for k in 1..3 {
+        let order = FixedOrder::of(Vec::new(rt.alloc()))?;
+        expect_same(&rt, rt.alloc(), &mut counter, Leaf::PassFirst { k, order })?;
+        let order = FixedOrder::of(Vec::new(rt.alloc()))?;
+        expect_same(&rt, rt.alloc(), &mut counter, Leaf::DropFirst { k, order })?;
+    }
+    Ok(())
+}
+
+#[test]
+fn eliminators_are_counted_as_they_mean(rt: HostRuntime) -> Result<(), Fail> {
+    for score in SCORES {
+        let mut counter = EliminatorCounter::new(KeptScore::new(*score));
+        expect_same(&rt, rt.alloc(), &mut counter, Leaf::Max(*score))?;
+        expect_same(&rt, rt.alloc(), &mut counter, Leaf::Min(*score))?;
+        expect_same(&rt, rt.alloc(), &mut counter, Leaf::Below(*score))?;
+        expect_same(&rt, rt.alloc(), &mut counter, Leaf::Upto(*score))?;
+    }
+    Ok(())
+}
