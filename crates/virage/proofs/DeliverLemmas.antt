@@ -1,14 +1,15 @@
 -- What a delivered answer says of its status.
-use Rattle.std.proofs.Common.{◌≡◌, ◌≢◌, ◌⊎◌, ℕ, List, Option, Ok, inl, inr, ◌∙◌}
+use Rattle.std.proofs.Common.{◌≡◌, ◌≢◌, ◌⊎◌, ℕ, List, Option, Ok, inl, inr}
 use Rattle.std.proofs.lemmas.Bool.{cases_eq}
 use Rattle.vir_outside.specs.Sink.{AppendsPrefix}
 use Rattle.virage.specs.declared.answer.Answer.{Answer}
 use Rattle.virage.specs.declared.answer.Answer.TheVariants.{Text, Denial}
 use Rattle.virage.specs.declared.status.TheConstants.{PRINTED, DENIED, WRITE_FAULT}
 use Rattle.virage.specs.declared.stop.Stop.TheVariants as stop
-use Rattle.virage.specs.Answer.{DeliversPrefix, IsAnswer, Reports, Stopped}
+use Rattle.virage.specs.Answer.{DeliversPrefix, IsAnswer, IsDenied, IsPrinted, Reports, Stopped}
 use Rattle.virage.specs.Delivery.{answer_status, answer_text, stop_line}
 use Rattle.virage.specs.Fate.{Fate}
+use Rattle.virage.specs.Runs.{BenchView}
 
 -- the status of an answer is one of two
 other_status : (answer : Answer) (status : ℕ) → status ≡ answer_status answer → status ≢ PRINTED → status ≢ DENIED → ⊥
@@ -29,6 +30,7 @@ stopped_by_write fate read_rose write_rose answer status before now old new whol
     record { reason = stop.WriteFault; status_is = is; cause = failed is; line = line is }
 
 -- a prefix of its text is written
-pub delivers_prefix : (fate : Fate) (can_deny read_rose : Type 0) (answer : Answer) (old new : Option (List ℕ)) → IsAnswer fate can_deny read_rose (Ok answer) → AppendsPrefix old new (answer_text answer) → DeliversPrefix fate old new
-delivers_prefix fate can_deny read_rose (Text text) old new is_answer appended = record { text = text.items; is_text = inl is_answer; appended = appended }
-delivers_prefix fate can_deny read_rose (Denial text) old new is_answer appended = record { text = text.items; is_text = inr is_answer.1; appended = appended }
+pub delivers_prefix : (fate : Fate) (can_deny read_rose : Type 0) (before after : BenchView) (answer : Answer) (old new : Option (List ℕ)) → IsAnswer fate can_deny read_rose before after (Ok answer) → AppendsPrefix old new (answer_text answer)
+    → DeliversPrefix (λ text. IsPrinted fate before after text ⊎ IsDenied fate before after text) old new
+delivers_prefix fate can_deny read_rose before after (Text text) old new is_answer appended = record { text = text.items; is_text = inl is_answer; appended = appended }
+delivers_prefix fate can_deny read_rose before after (Denial text) old new is_answer appended = record { text = text.items; is_text = inr is_answer.1; appended = appended }

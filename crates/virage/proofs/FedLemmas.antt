@@ -1,8 +1,7 @@
 -- How the bytes fed so far and what is left of a file make up what there was.
 use Rattle.std.proofs.Common.{◌≡◌, ℕ, ◌+◌, ◌≤◌, Bool, true, false, cond, List, ◌++◌, length, take, nat_le, Option, None, Some, Result, Ok, Err, IfOk, IfErr, IfSome, IsSome, IsTrue, refl, sym, ap, ◌∙◌, arith, inl, length-append, length-take}
-use Rattle.std.specs.Io.KnownBytes.{Consumes, IsAtEnd}
+use Rattle.std.specs.Io.KnownBytes.{Consumes}
 use Rattle.std.proofs.lemmas.Bool.Decides.{nat_tests}
-use Rattle.std.proofs.lemmas.List.{append-nil}
 use Rattle.vir_outside.specs.Shelf.{Files, Selects}
 use Rattle.vir_outside.proofs.Rests.{consumes_more}
 use Rattle.vir_profile.specs.SocFiles.{File}

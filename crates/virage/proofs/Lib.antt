@@ -3,3 +3,8 @@ pub mod FedLemmas
 pub mod WritesLemmas
 pub mod LeaveLemmas
 pub mod DeliverLemmas
+pub mod RunLemmas
+pub mod CountLemmas
+pub mod DrillLemmas
+pub mod WordLemmas
+pub mod DrillRunLemmas

@@ -1,35 +1,46 @@
 -- What a call comes to by its words and what it is given, device faults and want of memory aside.
-use Rattle.std.specs.Prelude.{◌≡◌, ◌⊎◌, ℕ, List, None, Some, IsTrue, Result, Ok, Err, is_some, map, string_bytes, if◌then◌else◌}
+use Rattle.std.specs.Prelude.{ℕ, List, [], ◌∷◌, None, Some, Result, Ok, Err, is_some, map, string_bytes, if◌then◌else◌}
 use Rattle.std.specs.declared.option.Option.{Option}
 use Rattle.std.specs.declared.string.String.{String}
 use Rattle.vir_altset.specs.Sets.{all}
+use Rattle.vir_code.specs.Code.{code_of}
+use Rattle.vir_code.specs.Listing.{listing_text}
 use Rattle.vir_outside.specs.Shelf.{Files, told_content}
 use Rattle.vir_profile.specs.Profiles.{Votes}
 use Rattle.vir_profile.specs.SocFiles.{File}
 use Rattle.vir_soc.specs.Soc.{soc}
+use Rattle.vir_term.specs.declared.leaf.Leaf.{Leaf}
+use Rattle.vir_term.specs.declared.leaf.LeafKind.{LeafKind}
+use Rattle.vir_term.specs.Text.{leaf_text}
 use Rattle.vir_term.specs.Tree.{Tree}
+use Rattle.vir_machine.specs.Uses.{first_unserved}
 use Rattle.vir_mean.specs.Meaning.{mean}
 use Rattle.virage.specs.declared.stop.Stop.{Stop}
 use Rattle.virage.specs.declared.stop.Stop.TheVariants as stop
-use Rattle.virage.specs.Command.{Command, count, command_of}
-use Rattle.virage.specs.Files.{rule_of}
+use Rattle.virage.specs.Command.{Command, count, drill, listing, command_of}
+use Rattle.vir_book.specs.Books.{rule_of}
+use Rattle.virage.specs.Drill.{drill_votes}
+use Rattle.virage.specs.DrillResults.{drill_terms, drill_text, first_unserved_of, runs_on}
 use Rattle.virage.specs.ResultText.{result_text}
-use Rattle.virage.specs.Stops.{refused_rule, refused_profile}
+use Rattle.virage.specs.Runs.{Run}
+use Rattle.virage.specs.Stops.{refused_text, refused_profile}
 
--- What a call is given beside its words: the files of the shelf, where it tells them.
+-- What a call is given beside its words: the files of the shelf, where it tells them, and the kinds of modules that each counter
+-- of its bench serves.
 pub record Given : Type 0 where
   pub files : Option Files
+  pub kinds : List (List LeafKind)
 
-abbrev pub given : Option Files → Given
-given files = record { files = files }
+abbrev pub given : Option Files → List (List LeafKind) → Given
+given files kinds = record { files = files; kinds = kinds }
 
 pub data Fate : Type 0 where
   -- the shelf doesn't tell its files
   untold : Fate
   -- no text is printed, for this reason
   stops : Stop → Fate
-  -- this text is printed
-  prints : List ℕ → Fate
+  -- these runs are made, and this text is printed
+  prints : List Run → List ℕ → Fate
   -- this text, a negative answer, is printed
   denies : List ℕ → Fate
 
@@ -50,7 +61,7 @@ with_file read refused given name goes_on =
 
 -- a command that comes to a rule file, and goes on so with its term
 abbrev pub with_rule : Given → List ℕ → (Tree → Fate) → Fate
-with_rule given name goes_on = with_file rule_of refused_rule given name goes_on
+with_rule given name goes_on = with_file rule_of refused_text given name goes_on
 
 -- a command that comes to a profile, and goes on so with it and its names
 abbrev pub with_profile : Given → List ℕ → (File → Fate) → Fate
@@ -60,9 +71,24 @@ with_profile given name goes_on = with_file soc refused_profile given name goes_
 abbrev pub count_text : Tree → Votes → List ℕ
 count_text rule votes = result_text (mean rule (all votes.alternatives) votes.lines)
 
+-- by the first module that no counter serves, if there is one
+abbrev pub served_fate : Option Leaf → Fate → Fate
+served_fate None goes_on = goes_on
+served_fate (Some leaf) goes_on = stops (stop.NoCounter (leaf_text leaf))
+
+-- what counting a profile with a rule comes to, over counters of these kinds
+abbrev pub counted_fate : List (List LeafKind) → Tree → Votes → Fate
+counted_fate kinds rule votes = served_fate (first_unserved kinds rule) (prints (record { term = rule; votes = votes } ∷ []) (count_text rule votes))
+
+-- what the rules of `drill` on a profile come to, over counters of these kinds
+abbrev pub drill_fate : List (List LeafKind) → Votes → Fate
+drill_fate kinds votes = served_fate (first_unserved_of kinds drill_terms) (prints (runs_on votes drill_terms) (drill_text votes))
+
 -- what a command comes to
 abbrev pub command_fate : Given → Command → Fate
-command_fate given (count rule profile) = with_rule given rule (λ term. with_profile given profile (λ file. prints (count_text term file.profile)))
+command_fate given (count rule profile) = with_rule given rule (λ term. with_profile given profile (λ file. counted_fate given.kinds term file.profile))
+command_fate given (listing rule) = with_rule given rule (λ term. prints [] (listing_text (code_of term)))
+command_fate given (drill seed lines alternatives) = drill_fate given.kinds (drill_votes seed lines alternatives)
 
 -- what words come to that are this command, or none
 abbrev pub words_fate : Given → Option Command → Fate
@@ -73,6 +99,6 @@ words_fate given (Some command) = command_fate given command
 abbrev pub fate : Given → List (List ℕ) → Fate
 fate given words = words_fate given (command_of words)
 
--- what a call comes to that is given these words of the code, and a shelf that tells these files or none
-abbrev pub call_fate : {Z : Type 0} → Option Files → List (String Z) → Fate
-call_fate files words = fate (given files) (map string_bytes words)
+-- what a call comes to that is given these words of the code, a shelf that tells these files or none, and a bench for these kinds
+abbrev pub call_fate : {Z : Type 0} → Option Files → List (List LeafKind) → List (String Z) → Fate
+call_fate files kinds words = fate (given files kinds) (map string_bytes words)

@@ -1,5 +1,5 @@
 -- A profile that is fed in pieces.
-use Rattle.std.specs.Prelude.{◌≡◌, ℕ, List, IfSome, Ok, Err}
+use Rattle.std.specs.Prelude.{◌≡◌, ℕ, List, IfSome, Err}
 use Rattle.std.specs.declared.option.Option.{Option}
 use Rattle.vir_soc.specs.declared.fault.SocFault.{SocFault}
 use Rattle.vir_soc.specs.declared.fault.SocError.{SocError}

@@ -1,21 +1,13 @@
 -- The files that a command may come to, and what an answer about one of them says.
-use Rattle.std.specs.Prelude.{◌≡◌, ◌⊎◌, ℕ, ◌+◌, Bool, List, [], ◌∷◌, length, map, nat_le, string_bytes, None, Some, IsSome, IsTrue, Result, Ok, Err, if◌then◌else◌}
+use Rattle.std.specs.Prelude.{◌≡◌, ◌⊎◌, ℕ, ◌+◌, Bool, List, [], ◌∷◌, map, string_bytes, None, Some, IsSome, IsTrue, Result, Ok, Err}
 use Rattle.std.specs.declared.option.Option.{Option}
 use Rattle.std.specs.declared.string.String.{String}
 use Rattle.vir_outside.specs.Shelf.{Files, Lacks, TakesAtMost, told_content}
-use Rattle.vir_plain_rule.specs.declared.refusal.RuleRefusal.{RuleRefusal}
-use Rattle.vir_plain_rule.specs.declared.refusal.RuleRefusal.TheVariants.{NotPlain}
-use Rattle.vir_plain_rule.specs.PlainRule.{plain_rule}
+use Rattle.vir_book.specs.declared.book.TheConstants.{TEXT_LIMIT}
 use Rattle.vir_soc.specs.declared.soc_reader.TheConstants.{SIZE_LIMIT}
-use Rattle.vir_term.specs.Tree.{Tree}
 use Rattle.virage.specs.declared.file_stop.FileStop.{FileStop}
 use Rattle.virage.specs.declared.file_stop.FileStop.TheVariants.{Fault, Refused, Memory}
-use Rattle.virage.specs.declared.rule_file.TheConstants.{RULE_LIMIT}
-use Rattle.virage.specs.Command.{Command, count, command_of}
-
--- the term of a rule file, or what is wrong with it; one that is too long is refused as it stands
-abbrev pub rule_of : List ℕ → Result Tree RuleRefusal
-rule_of bytes = if nat_le (length bytes) RULE_LIMIT then plain_rule bytes else Err NotPlain
+use Rattle.virage.specs.Command.{Command, count, drill, listing, command_of}
 
 -- A file that a command may come to: its name, and how many bytes one of its kind may have.
 pub record AskedFile : Type 0 where
@@ -24,7 +16,9 @@ pub record AskedFile : Type 0 where
 
 -- the files that a command comes to, one after another, as long as none stops it
 abbrev pub files_of : Command → List AskedFile
-files_of (count rule profile) = record { name = rule; limit = RULE_LIMIT } ∷ record { name = profile; limit = SIZE_LIMIT } ∷ []
+files_of (count rule profile) = record { name = rule; limit = TEXT_LIMIT } ∷ record { name = profile; limit = SIZE_LIMIT } ∷ []
+files_of (listing rule) = record { name = rule; limit = TEXT_LIMIT } ∷ []
+files_of (drill seed lines alternatives) = []
 
 -- the files that the words ask for; none where they are no command
 abbrev pub files_of_any : Option Command → List AskedFile

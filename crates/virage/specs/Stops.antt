@@ -1,5 +1,5 @@
 -- Why a call stops, by why a file isn't read.
-use Rattle.vir_plain_rule.specs.declared.refusal.RuleRefusal.{RuleRefusal}
+use Rattle.vir_read.specs.declared.text_fault.TextFault.{TextFault}
 use Rattle.vir_soc.specs.declared.fault.SocFault.{SocFault}
 use Rattle.virage.specs.declared.file_stop.FileStop.{FileStop}
 use Rattle.virage.specs.declared.file_stop.FileStop.TheVariants.{Fault, Refused, Memory}
@@ -12,16 +12,16 @@ file_stop refused Fault = stop.ReadFault
 file_stop refused (Refused fault) = refused fault
 file_stop refused Memory = stop.Memory
 
--- a refused rule file, and a refused profile
-abbrev pub refused_rule : RuleRefusal → Stop
-refused_rule refusal = stop.RuleRefused refusal
+-- a refused text, and a refused profile
+abbrev pub refused_text : TextFault → Stop
+refused_text fault = stop.TextRefused fault
 
 abbrev pub refused_profile : SocFault → Stop
 refused_profile fault = stop.ProfileRefused fault
 
--- why a call stops at a rule file, and at a profile
-abbrev pub rule_stop : FileStop RuleRefusal → Stop
-rule_stop reason = file_stop refused_rule reason
+-- why a call stops at a text, and at a profile
+abbrev pub text_stop : FileStop TextFault → Stop
+text_stop reason = file_stop refused_text reason
 
 abbrev pub profile_stop : FileStop SocFault → Stop
 profile_stop reason = file_stop refused_profile reason

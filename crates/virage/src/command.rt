@@ -1,24 +1,64 @@
 // The words of the command line.
-ghost use Rattle.std.specs.Prelude.{◌≡◌, map, string_bytes};
+ghost use Rattle.std.specs.Prelude.{◌≡◌, IfSome, map, string_bytes};
 ghost use Rattle.std.specs.Option.{option_map};
-ghost use Rattle.virage.specs.Command.{command_of, command_seen};
+ghost use Rattle.virage.specs.Command.{IsInRange, command_of, command_seen, drill_words};
+
+use crate::drill_profile::{DRILL_LINES_LIMIT, DRILL_SEED_LIMIT};
+use crate::word_number::word_number;
+use vir_profile::LIMIT;
 
 /// What the words ask for. Names of files are borrowed from the words.
 #[derive(Clone, Copy)]
 pub enum Command<'a> {
     /// Counts the profile with the rule.
-    Count { rule: &'a str, profile: &'a str },
+    Count {
+        rule: &'a str,
+        profile: &'a str,
+    },
+    /// Prints the counting code of the rule.
+    Listing {
+        rule: &'a str,
+    },
+    /// Counts a generated profile with the rules of `drill`.
+    Drill {
+        seed: u64,
+        lines: u32,
+        alternatives: u16,
+    },
+}
+
+// The command `drill` with the numbers that these words are, where each is one of its range.
+fn read_drill<'a>(seed: &str, lines: &str, alternatives: &str) -> Option<Command<'a>>
+    ensures command { option_map command_seen result ≡ drill_words seed.now lines.now alternatives.now }
+    ensures range { IfSome result (λ command. IsInRange (command_seen command)) }
+{
+    let seed = word_number(seed, 0, DRILL_SEED_LIMIT)?;
+    let lines = word_number(lines, 1, u64::from(DRILL_LINES_LIMIT))?;
+    let alternatives = word_number(alternatives, 1, u64::from(LIMIT))?;
+    Some(Command::Drill {
+        seed,
+        lines: lines as u32,
+        alternatives: alternatives as u16,
+    })
 }
 
 /// The command that the words are; None exactly where they are no command.
 pub fn read_words(words: &[String]) -> Option<Command<'_>>
-    ensures { option_map command_seen result ≡ command_of (map string_bytes words.now) }
+    ensures command { option_map command_seen result ≡ command_of (map string_bytes words.now) }
+    ensures range { IfSome result (λ command. IsInRange (command_seen command)) }
 {
     match words {
         [first, rule, profile] if first.as_str() == "count" => Some(Command::Count {
             rule: rule.as_str(),
             profile: profile.as_str(),
         }),
+        [first, rule] if first.as_str() == "listing" => {
+            let rule = rule.as_str();
+            Some(Command::Listing { rule })
+        }
+        [first, seed, lines, alternatives] if first.as_str() == "drill" => {
+            read_drill(seed, lines, alternatives)
+        }
         _ => None,
     }
 }

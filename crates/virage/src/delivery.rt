@@ -1,43 +1,34 @@
 // An answer, or the reason why there is none, told to both sinks.
-ghost use Rattle.std.specs.Prelude.{◌≡◌, ◌≢◌, ◌≤◌, ◌++◌, ℕ, List};
+ghost use Rattle.std.specs.Prelude.{◌≡◌, ◌≢◌, ◌≤◌, ◌++◌, ℕ, List, codes};
 ghost use Rattle.std.specs.declared.option.Option.{Option};
 ghost use Rattle.std.specs.Io.KnownBytes.{Appends};
 ghost use Rattle.vir_outside.specs.Faults.{Rose};
 ghost use Rattle.vir_outside.specs.Sink.{AppendsPrefix};
 ghost use Rattle.virage.specs.declared.stop.Stop.TheVariants.{WriteFault};
 ghost use Rattle.virage.specs.Answer.{Reports, Writes};
-ghost use Rattle.virage.specs.Delivery.{answer_status, answer_text, placed_line, refusal_line, refusal_name, stop_line, stop_status};
+ghost use Rattle.virage.specs.Delivery.{answer_status, answer_text, placed_line, stop_line, stop_status};
 
 use crate::answer::Answer;
 use crate::status::{
-    DENIED, OUT_OF_MEMORY, PRINTED, PROFILE_REFUSED, READ_FAULT, TEXT_REFUSED, USAGE_FAULT,
-    WRITE_FAULT,
+    DENIED, NO_COUNTER, OUT_OF_MEMORY, PRINTED, PROFILE_REFUSED, READ_FAULT, TEXT_REFUSED,
+    USAGE_FAULT, WRITE_FAULT,
 };
 use crate::stop::Stop;
 use itoa::Buffer;
 use vir_outside::{Failed, Sink, write_whole};
-use vir_plain_rule::RuleRefusal;
 
 // The status of a reason to stop.
-fn stop_status(reason: Stop) -> u8
-    ensures { result ≡ stop_status reason }
+fn stop_status(reason: &Stop) -> u8
+    ensures { result ≡ stop_status reason.now }
 {
     match reason {
         Stop::Usage => USAGE_FAULT,
         Stop::ReadFault => READ_FAULT,
-        Stop::RuleRefused(_) => TEXT_REFUSED,
+        Stop::TextRefused(_) => TEXT_REFUSED,
         Stop::ProfileRefused(_) => PROFILE_REFUSED,
         Stop::WriteFault => WRITE_FAULT,
         Stop::Memory => OUT_OF_MEMORY,
-    }
-}
-
-// The name of what is wrong with the text of a rule.
-fn refusal_name(refusal: RuleRefusal) -> &'static str
-    ensures { result.now ≡ refusal_name refusal }
-{
-    match refusal {
-        RuleRefusal::NotPlain => "NotPlain",
+        Stop::NoCounter(_) => NO_COUNTER,
     }
 }
 
@@ -74,39 +65,44 @@ fn write_placed<E: Sink>(
     and_write(err, written, b"\n")
 }
 
-// Writes the line of a refused rule.
-fn write_refusal<E: Sink>(err: &mut E, refusal: RuleRefusal) -> Result<(), Failed>
-    ensures writes { Writes (E.faults err.old) (E.faults err.new) (E.written err.old) (E.written err.new) (refusal_line refusal) result }
+// Writes the line that names a module which no counter serves. It takes no memory.
+fn write_unserved<E: Sink>(err: &mut E, text: &[u8]) -> Result<(), Failed>
+    ensures writes { Writes (E.faults err.old) (E.faults err.new) (E.written err.old) (E.written err.new)
+        (codes "no counter for " ++ text.now ++ codes "\n") result }
     ensures later { E.faults err.old ≤ E.faults err.new }
 {
-    let written = write_whole(err, b"text refused: ");
-    let written = and_write(err, written, refusal_name(refusal).as_bytes());
+    let written = write_whole(err, b"no counter for ");
+    let written = and_write(err, written, text);
     and_write(err, written, b"\n")
 }
 
 // Writes the line of a reason to stop.
-fn write_line<E: Sink>(err: &mut E, reason: Stop) -> Result<(), Failed>
-    ensures writes { Writes (E.faults err.old) (E.faults err.new) (E.written err.old) (E.written err.new) (stop_line reason) result }
+fn write_line<E: Sink>(err: &mut E, reason: &Stop) -> Result<(), Failed>
+    ensures writes { Writes (E.faults err.old) (E.faults err.new) (E.written err.old) (E.written err.new) (stop_line reason.now) result }
     ensures later { E.faults err.old ≤ E.faults err.new }
 {
     match reason {
         Stop::Usage => write_whole(err, b"usage fault\n"),
         Stop::ReadFault => write_whole(err, b"read fault\n"),
-        Stop::RuleRefused(refusal) => write_refusal(err, refusal),
+        Stop::TextRefused(fault) => {
+            let kind = fault.kind.name();
+            write_placed(err, b"text refused: ", kind, b" at byte ", fault.at as u64)
+        }
         Stop::ProfileRefused(fault) => {
             let kind = fault.kind.name();
             write_placed(err, b"profile refused: ", kind, b" at line ", fault.line)
         }
         Stop::WriteFault => write_whole(err, b"write fault\n"),
         Stop::Memory => write_whole(err, b"out of memory\n"),
+        Stop::NoCounter(text) => write_unserved(err, text.bytes()),
     }
 }
 
 /// Tells why there is no whole text: writes the line of the reason, and answers its status. Whether
 /// the line can be written changes no status. It takes no memory.
-pub fn report<E: Sink>(err: &mut E, reason: Stop) -> u8
-    ensures status { result ≡ stop_status reason }
-    ensures line { Reports (E.faults err.old) (E.faults err.new) (E.written err.old) (E.written err.new) (stop_line reason) }
+pub fn report<E: Sink>(err: &mut E, reason: &Stop) -> u8
+    ensures status { result ≡ stop_status reason.now }
+    ensures line { Reports (E.faults err.old) (E.faults err.new) (E.written err.old) (E.written err.new) (stop_line reason.now) }
     ensures later { E.faults err.old ≤ E.faults err.new }
 {
     let _ = write_line(err, reason);
@@ -146,7 +142,7 @@ pub fn deliver<O: Sink, E: Sink>(out: &mut O, err: &mut E, answer: &Answer) -> u
     ensures err_later { E.faults err.old ≤ E.faults err.new }
 {
     if write_whole(out, text_of(answer)).is_err() {
-        return report(err, Stop::WriteFault);
+        return report(err, &Stop::WriteFault);
     }
     answer_status(answer)
 }

@@ -1,12 +1,14 @@
 //! The program: counts a profile with a voting rule.
 //!
 //! `main` hands the words of the command line, the files of the current folder and the standard
-//! streams to one call, `virage`, which is generic in where files and texts come from and go to, and
-//! ends with the status that it answers. The contract of that call is what users rest on: over files
-//! that are told, what it prints is the meaning of the rule on the profile; each status comes where
-//! its cause is, and where the cause is the status comes. All of it is said by one function of the
-//! words and the files (`specs/Fate.antt`). The call is two steps: `answered` does what the words ask
-//! for, and `deliver` or `report` tells the outcome to both streams. It stands on all other crates.
+//! streams to one call, `virage`, on a bench of eight counters that serve every module, and ends with
+//! the status that it answers. The call is generic in where files and texts come from and go to. Its
+//! contract is what users rest on: over files that are told, what it prints is the meaning of the rule
+//! on the profile; the counters of the bench are called as often as that meaning comes to them; each
+//! status comes where its cause is, and where the cause is the status comes. All of it is said by one
+//! function of the words, the files and what the bench serves (`specs/Fate.antt`). The call is two
+//! steps: `answered` does what the words ask for, and `deliver` or `report` tells the outcome to both
+//! streams. It stands on all other crates.
 #![tactic(auto)]
 
 ghost use Rattle.std.specs.Prelude.{◌≡◌, ◌↔◌, ◌⊎◌};
@@ -18,7 +20,15 @@ mod answering;
 mod command;
 mod count;
 mod delivery;
+mod drill;
+mod drill_profile;
+mod drill_terms;
+#[cfg(test)]
+mod drill_tests;
 mod file_stop;
+mod full_bench;
+mod leaf_text;
+mod listing;
 mod profile_file;
 mod result_text;
 mod rule_file;
@@ -27,11 +37,12 @@ mod stop;
 #[cfg(test)]
 mod tests;
 mod top;
+mod word_number;
 
+use full_bench::called_on_full_bench;
 use status::{OUT_OF_MEMORY, USAGE_FAULT};
 use std::process::ExitCode;
 use std::{env, io};
-use top::virage;
 use vir_outside::{FolderShelf, StreamSink};
 
 // The status where the words can't be had: want of memory where that is why, and else one isn't text.
@@ -57,5 +68,8 @@ fn main(rt: HostRuntime) -> ExitCode {
     let mut shelf = FolderShelf::new(&rt);
     let mut out = StreamSink::new(rt.stdout());
     let mut err = StreamSink::new(rt.stderr());
-    ExitCode::from(virage(rt.alloc(), &words, &mut shelf, &mut out, &mut err))
+    match called_on_full_bench(rt.alloc(), &words, &mut shelf, &mut out, &mut err) {
+        Ok(status) => ExitCode::from(status),
+        Err(_) => ExitCode::from(OUT_OF_MEMORY),
+    }
 }

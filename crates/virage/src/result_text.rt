@@ -28,8 +28,8 @@ fn push_members(text: &mut Vec<u8>, set: &AltSet) -> Result<(), AllocError>
     Ok(())
 }
 
-// Appends the line of a set: its name, a colon, and its members.
-fn push_set(text: &mut Vec<u8>, name: &[u8], set: &AltSet) -> Result<(), AllocError>
+/// Appends the line of a set: its name, a colon, and its members.
+pub fn push_set(text: &mut Vec<u8>, name: &[u8], set: &AltSet) -> Result<(), AllocError>
     ensures { OnOk result (text.new.items ≡ text.old.items ++ set_line name.now set.now) }
 {
     text.extend_from_slice(name)?;

@@ -1,48 +1,52 @@
 // A rule file, read whole and judged.
-ghost use Rattle.std.specs.Prelude.{◌≡◌, ◌⊎◌, ◌≤◌, ◌+◌, IsErrOf, IsTrue};
+ghost use Rattle.std.specs.Prelude.{◌≡◌, ◌⊎◌, ◌≤◌, ◌+◌, IfOk, IsErrOf, IsTrue};
 ghost use Rattle.vir_outside.specs.Faults.{Rose};
 ghost use Rattle.vir_outside.specs.Shelf.{Lacks, TakesAtMost};
+ghost use Rattle.vir_term.specs.Limits.{IsWithinLimits};
 ghost use Rattle.vir_term.specs.Tree.{tree};
-ghost use Rattle.vir_plain_rule.specs.PlainRule.{plain_rule};
-ghost use Rattle.virage.specs.Files.{Judges, Reads, rule_of};
+ghost use Rattle.vir_book.specs.Books.{rule_of};
+ghost use Rattle.virage.specs.Files.{Judges, Reads};
 
 use crate::file_stop::FileStop;
 use std::alloc::Global;
+use vir_book::{TEXT_LIMIT, read_book};
 use vir_outside::{ReadStop, Shelf, read_whole};
-use vir_plain_rule::{RuleError, RuleRefusal, read_rule};
+use vir_read::{TextError, TextFault, TextKind};
 use vir_term::Term;
 
-/// The greatest length of a rule file, in bytes.
-pub const RULE_LIMIT: usize = 1_048_576;
-
-// The term of the text of a rule.
-fn judged(alloc: Global, text: &[u8]) -> Result<Term, FileStop<RuleRefusal>>
-    ensures { Judges (plain_rule text.now) tree result }
+// The rule that the text of a rule file defines last.
+fn judged(alloc: Global, text: &[u8]) -> Result<Term, FileStop<TextFault>>
+    ensures judges { Judges (rule_of text.now) tree result }
+    ensures within { IfOk result (λ term. IsWithinLimits (tree term)) }
 {
-    match read_rule(alloc, text) {
-        Ok(term) => Ok(term),
-        Err(RuleError::Refused(refusal)) => Err(FileStop::Refused(refusal)),
-        Err(RuleError::Memory) => Err(FileStop::Memory),
+    match read_book(alloc, text) {
+        Ok(book) => book.last_rule().copy(alloc).map_err(|_| FileStop::Memory),
+        Err(TextError::Fault(fault)) => Err(FileStop::Refused(fault)),
+        Err(TextError::Memory) => Err(FileStop::Memory),
     }
 }
 
-/// The term of a rule file.
+/// The rule that a file defines last.
 pub fn rule_file<S: Shelf>(
     alloc: Global,
     shelf: &mut S,
     name: &str,
-) -> Result<Term, FileStop<RuleRefusal>>
+) -> Result<Term, FileStop<TextFault>>
     ensures reads { Reads rule_of tree (S.files shelf.old) name.now (Rose (S.faults shelf.old) (S.faults shelf.new)) result }
+    ensures within { IfOk result (λ term. IsWithinLimits (tree term)) }
     ensures missing { Lacks (S.files shelf.old) name.now → IsErrOf result FileStop.Fault }
     ensures selected { IsErrOf result FileStop.Fault ⊎ IsTrue (S.selected shelf.new) }
-    ensures taken { TakesAtMost (S.files shelf.old) name.now (S.selected shelf.new) (S.rest shelf.new) (RULE_LIMIT + 1) }
+    ensures taken { TakesAtMost (S.files shelf.old) name.now (S.selected shelf.new) (S.rest shelf.new) (TEXT_LIMIT + 1) }
     ensures files { S.files shelf.new ≡ S.files shelf.old }
     ensures later { S.faults shelf.old ≤ S.faults shelf.new }
 {
-    match read_whole(alloc, shelf, name, RULE_LIMIT) {
+    match read_whole(alloc, shelf, name, TEXT_LIMIT) {
         Ok(text) => judged(alloc, &text),
         Err(ReadStop::Fault) => Err(FileStop::Fault),
-        Err(ReadStop::TooLong) => Err(FileStop::Refused(RuleRefusal::NotPlain)),
+        Err(ReadStop::TooLong) => Err(FileStop::Refused(TextFault {
+            kind: TextKind::TextTooLong,
+            at: TEXT_LIMIT,
+        })),
         Err(ReadStop::Memory) => Err(FileStop::Memory),
     }
 }

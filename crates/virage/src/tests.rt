@@ -3,10 +3,15 @@ ghost use Rattle.std.specs.Prelude.{◌≤◌};
 
 use crate::answer::Answer;
 use crate::delivery::deliver;
+use crate::full_bench::called_on_full_bench;
 use crate::top::virage;
 use std::alloc::{AllocError, Global};
 use std::process::Abort;
+use vir_counter::{EliminatorCounter, FixedCounter, OrderCounter, PluralityCounter};
+use vir_machine::Bench;
 use vir_outside::{MemoryShelf, MemorySink};
+use vir_score::KeptScore;
+use vir_term::Score;
 
 // Words, the contents of the files "rule.vir" and "votes.soc", and the status, the output and the
 // error line of the call.
@@ -64,36 +69,44 @@ const ALL_DEFERRED: &[u8] = b"elected:\nrejected:\ndeferred: 1 2 3\n";
 
 const ALL_ELECTED: &[u8] = b"elected: 1 2 3\nrejected:\ndeferred:\n";
 
-const NOT_PLAIN: &[u8] = b"text refused: NotPlain\n";
+const EMPTY: &[u8] = b"text refused: EmptyBook at byte 0\n";
 
 const USAGE: &[u8] = b"usage fault\n";
 
 const UNREAD: &[u8] = b"read fault\n";
 
+const LISTING: &[&str] = &["listing", "rule.vir"];
+
+const LOOPED: &[u8] = b"r = seq(loop(1,min(plurality)),elect);";
+
+const LISTED: &[u8] = b"0 start-loop
+1 loop-test 1 4
+2 call min(plurality)
+3 loop-back 1
+4 end-loop
+5 keep-domain
+6 fetch-domain
+7 call elect
+8 join-seq
+";
+
+const DRILL: &[&str] = &["drill", "0", "1", "3"];
+
+const DRILLED: &[u8] = b"lines 1 voters 1 alternatives 3
+plurality elected: 3
+seq(max(borda),elect) elected: 3
+seq(max(copeland),elect) elected: 3
+seq(loop(1,min(borda)),elect) elected: 3
+";
+
 const ROWS: &[Row] = &[
     (COUNT, PLURALITY, DIVIDED, 0, FIRST_WINS, b""),
     (COUNT, b"r = plurality;\n", LOOSE, 0, FIRST_WINS, b""),
     (COUNT, PLURALITY, BOARD, 0, FIRST_WINS, b""),
-    (
-        COUNT,
-        b"r = seq(plurality,elect);",
-        DIVIDED,
-        0,
-        FIRST_WINS,
-        b"",
-    ),
-    (
-        COUNT,
-        b"r = seq(defer,plurality);",
-        DIVIDED,
-        0,
-        FIRST_WINS,
-        b"",
-    ),
     (COUNT, b"r = defer;", DIVIDED, 0, ALL_DEFERRED, b""),
     (COUNT, PLURALITY, SILENT, 0, ALL_ELECTED, b""),
-    (COUNT, b"r = elect ;", SHORT, 3, b"", NOT_PLAIN),
-    (COUNT, b"", DIVIDED, 3, b"", NOT_PLAIN),
+    // A refused rule file hides a refused profile.
+    (COUNT, b"", SHORT, 3, b"", EMPTY),
     (
         COUNT,
         ELECT,
@@ -119,6 +132,14 @@ const ROWS: &[Row] = &[
         b"profile refused: NoAlternativeCount at line 1\n",
     ),
     (
+        COUNT,
+        ELECT,
+        b"# NUMBER ALTERNATIVES: 2\n18446744073709551615: 1,2\n1: 2,1\n",
+        4,
+        b"",
+        b"profile refused: TooManyVoters at line 3\n",
+    ),
+    (
         &["count", "other.vir", "votes.soc"],
         ELECT,
         DIVIDED,
@@ -141,8 +162,56 @@ const ROWS: &[Row] = &[
         DIVIDED,
         3,
         b"",
-        NOT_PLAIN,
+        b"text refused: BadByte at byte 26\n",
     ),
+    (LISTING, LOOPED, DIVIDED, 0, LISTED, b""),
+    (LISTING, b"", DIVIDED, 3, b"", EMPTY),
+    (&["listing", "other.vir"], ELECT, DIVIDED, 5, b"", UNREAD),
+    (DRILL, ELECT, DIVIDED, 0, DRILLED, b""),
+    (
+        &["drill", "00", "0001", "03"],
+        ELECT,
+        DIVIDED,
+        0,
+        DRILLED,
+        b"",
+    ),
+    (
+        &["drill", "7", "50", "6"],
+        ELECT,
+        DIVIDED,
+        0,
+        b"lines 50 voters 50 alternatives 6
+plurality elected: 5
+seq(max(borda),elect) elected: 5
+seq(max(copeland),elect) elected: 5
+seq(loop(1,min(borda)),elect) elected: 5
+",
+        b"",
+    ),
+    (&["drill", "0", "0", "3"], ELECT, DIVIDED, 2, b"", USAGE),
+    (
+        &["drill", "0", "100001", "3"],
+        ELECT,
+        DIVIDED,
+        2,
+        b"",
+        USAGE,
+    ),
+    (&["drill", "0", "1", "0"], ELECT, DIVIDED, 2, b"", USAGE),
+    (&["drill", "0", "1", "129"], ELECT, DIVIDED, 2, b"", USAGE),
+    (&["drill", "x", "1", "3"], ELECT, DIVIDED, 2, b"", USAGE),
+    (&["drill", "+1", "1", "3"], ELECT, DIVIDED, 2, b"", USAGE),
+    (&["drill", "", "1", "3"], ELECT, DIVIDED, 2, b"", USAGE),
+    (
+        &["drill", "18446744073709551616", "1", "3"],
+        ELECT,
+        DIVIDED,
+        2,
+        b"",
+        USAGE,
+    ),
+    (&["drill", "0", "1"], ELECT, DIVIDED, 2, b"", USAGE),
     (&[], ELECT, DIVIDED, 2, b"", USAGE),
     (&["count"], ELECT, DIVIDED, 2, b"", USAGE),
     (&["count", "rule.vir"], ELECT, DIVIDED, 2, b"", USAGE),
@@ -165,11 +234,143 @@ const ROWS: &[Row] = &[
     (&["--help"], ELECT, DIVIDED, 2, b"", USAGE),
 ];
 
+// Each pair of three votes is won by one of them: 1 against 2, 2 against 3, 3 against 1.
+const CYCLE: &[u8] = b"# NUMBER ALTERNATIVES: 3\n1: 1,2,3\n1: 2,3,1\n1: 3,1,2\n";
+
+const ALONE: &[u8] = b"# NUMBER ALTERNATIVES: 1\n";
+
+// As many voters as a profile may have, all of one opinion.
+const CROWD: &[u8] = b"# NUMBER ALTERNATIVES: 2\n18446744073709551615: 1,2\n";
+
+const SECOND_WINS: &[u8] = b"elected: 2\nrejected: 1 3\ndeferred:\n";
+
+const SECOND_LEFT: &[u8] = b"elected:\nrejected: 1 3\ndeferred: 2\n";
+
+const SEQUENTIAL_MAJORITY: &[u8] =
+    b"r = seq(loop(1,par(seq(pass(2),seq(rev(plurality),pass(1))),drop(2))),elect);";
+
+// Compositions in as many levels as there may be.
+const DEEP: &[u8] = b"r = rev(rev(rev(rev(rev(rev(rev(rev(rev(rev(rev(rev(rev(rev(rev(rev(\
+rev(rev(rev(rev(rev(rev(rev(rev(rev(rev(rev(rev(rev(rev(rev(rev(rev(rev(rev(rev(rev(rev(rev(rev(rev(rev(\
+rev(rev(rev(rev(rev(rev(rev(rev(rev(rev(rev(rev(rev(rev(rev(rev(rev(rev(rev(rev(rev(elect\
+)))))))))))))))))))))))))))))))))))))))))))))))))))))))))))))));";
+
+// A rule file, a profile, and what is printed.
+const RULES: &[(&[u8], &[u8], &[u8])] = &[
+    (b"r = seq(plurality,elect);", DIVIDED, FIRST_WINS),
+    (b"r = seq(defer,plurality);", DIVIDED, FIRST_WINS),
+    (b"r = seq(pass(2),plurality);", DIVIDED, SECOND_WINS),
+    (b"r = seq(max(copeland),elect);", DIVIDED, SECOND_WINS),
+    (b"r = max(borda);", DIVIDED, SECOND_LEFT),
+    (b"r = below(borda);", DIVIDED, SECOND_LEFT),
+    (
+        b"r = seq(loop(1,min(plurality)),elect);",
+        DIVIDED,
+        SECOND_WINS,
+    ),
+    (SEQUENTIAL_MAJORITY, DIVIDED, SECOND_WINS),
+    (b"r = loop(1,min(borda));", CYCLE, ALL_DEFERRED),
+    (
+        b"r = seq(drop(2),elect);",
+        ALONE,
+        b"elected:\nrejected: 1\ndeferred:\n",
+    ),
+    (
+        b"r = max(borda);",
+        CROWD,
+        b"elected:\nrejected: 2\ndeferred: 1\n",
+    ),
+    (DEEP, DIVIDED, b"elected:\nrejected: 1 2 3\ndeferred:\n"),
+    (
+        b"# Two names.\r\nfirst = plurality ; # a comment\n\tlast=seq ( defer, first );",
+        DIVIDED,
+        FIRST_WINS,
+    ),
+];
+
+// A rule file that is refused, and the line that says why.
+const REFUSALS: &[(&[u8], &[u8])] = &[
+    (b"", EMPTY),
+    (b"r = elect", b"text refused: Unexpected at byte 9\n"),
+    (
+        b"r = seq(foo,elect);",
+        b"text refused: UnknownName at byte 8\n",
+    ),
+    (b"r = rev(r);", b"text refused: UnknownName at byte 8\n"),
+    (b"r = max(elect);", b"text refused: WrongSort at byte 8\n"),
+    (b"r = pass(0);", b"text refused: BadNumber at byte 9\n"),
+    (
+        b"r = pass(1,[2,2]);",
+        b"text refused: RepeatedInOrder at byte 14\n",
+    ),
+    (
+        b"r = elect; r = defer;",
+        b"text refused: NameTwice at byte 11\n",
+    ),
+    (
+        b"a = seq(elect,elect);b = seq(a,a);c = seq(b,b);d = seq(c,c);e = seq(d,d);f = seq(e,e);g = seq(f,f);",
+        b"text refused: TooLarge at byte 86\n",
+    ),
+];
+
+// A module that no counter serves is named, and nothing is counted.
+#[test]
+fn an_unserved_module_is_named(rt: HostRuntime) -> Result<(), AllocError> {
+    let alloc = rt.alloc();
+    let mut bench = Bench::new(alloc);
+    bench.push(Box::new(alloc, FixedCounter::new())?)?;
+    let mut shelf = full_shelf(alloc, b"r = plurality;", DIVIDED)?;
+    let mut out = MemorySink::new(alloc, 8);
+    let mut err = MemorySink::new(alloc, 8);
+    let words = owned(alloc, COUNT)?;
+    let status = virage(alloc, &words, &mut shelf, &mut out, &mut err, &mut bench);
+    assert!(rt; status == 8);
+    assert!(rt; out.bytes().is_empty());
+    assert!(rt; err.bytes() == b"no counter for plurality\n".as_slice());
+    assert!(rt; bench.calls_of(0) == Some(0) && bench.runs() == 0);
+    Ok(())
+}
+
+// Two turns eliminate by plurality, a third finds one alternative left, and that is elected.
+#[test]
+fn a_run_is_counted_where_it_asks(rt: HostRuntime) -> Result<(), AllocError> {
+    let alloc = rt.alloc();
+    let mut bench = Bench::new(alloc);
+    bench.push(Box::new(alloc, FixedCounter::new())?)?;
+    bench.push(Box::new(alloc, OrderCounter::new())?)?;
+    bench.push(Box::new(alloc, PluralityCounter::new())?)?;
+    for score in [Score::Plurality, Score::Borda] {
+        let scoring = KeptScore::new(score);
+        bench.push(Box::new(alloc, EliminatorCounter::new(scoring))?)?;
+    }
+    let rule = b"r = seq(loop(1,min(plurality)),elect);";
+    let mut shelf = full_shelf(alloc, rule, DIVIDED)?;
+    let mut out = MemorySink::new(alloc, 8);
+    let mut err = MemorySink::new(alloc, 8);
+    let words = owned(alloc, COUNT)?;
+    let status = virage(alloc, &words, &mut shelf, &mut out, &mut err, &mut bench);
+    assert!(rt; status == 0);
+    assert!(rt; out.bytes() == SECOND_WINS);
+    for (i, calls) in [(0, 1), (1, 0), (2, 0), (3, 2), (4, 0)] {
+        assert!(rt; bench.calls_of(i) == Some(calls), "counter {i}");
+    }
+    assert!(rt; bench.runs() == 1);
+    Ok(())
+}
+
 fn full_shelf(alloc: Global, rule: &[u8], profile: &[u8]) -> Result<MemoryShelf, AllocError> {
     let mut shelf = MemoryShelf::new(alloc);
     shelf.put("rule.vir", rule)?;
     shelf.put("votes.soc", profile)?;
     Ok(shelf)
+}
+
+fn owned(alloc: Global, words: &[&str]) -> Result<Vec<String>, AllocError> {
+    let mut owned = Vec::new(alloc);
+    for word in words {
+        owned.push(word.to_string(alloc)?)?;
+    }
+    Ok(owned)
 }
 
 // The status of a call with these words.
@@ -180,11 +381,8 @@ fn status_of(
     out: &mut MemorySink,
     err: &mut MemorySink,
 ) -> Result<u8, AllocError> {
-    let mut owned = Vec::new(alloc);
-    for word in words {
-        owned.push(word.to_string(alloc)?)?;
-    }
-    Ok(virage(alloc, &owned, shelf, out, err))
+    let words = owned(alloc, words)?;
+    called_on_full_bench(alloc, &words, shelf, out, err)
 }
 
 // A call with these words answers the status, and these bytes are written to sinks that take some at
@@ -217,6 +415,53 @@ fn each_row_comes_to_what_it_says(rt: HostRuntime) -> Result<(), AllocError> {
         expect_call(&rt, rt.alloc(), words, &mut shelf, *status, text, line)?;
     }
     Ok(())
+}
+
+#[test]
+fn each_rule_is_counted(rt: HostRuntime) -> Result<(), AllocError> {
+    for (rule, profile, text) in RULES {
+        let mut shelf = full_shelf(rt.alloc(), rule, profile)?;
+        expect_call(&rt, rt.alloc(), COUNT, &mut shelf, 0, text, b"")?;
+    }
+    Ok(())
+}
+
+#[test]
+fn each_refused_rule_names_its_fault(rt: HostRuntime) -> Result<(), AllocError> {
+    for (rule, line) in REFUSALS {
+        let mut shelf = full_shelf(rt.alloc(), rule, DIVIDED)?;
+        expect_call(&rt, rt.alloc(), COUNT, &mut shelf, 3, b"", line)?;
+    }
+    Ok(())
+}
+
+// One composition more than there may be.
+#[test]
+fn a_rule_that_is_too_deep_is_refused(rt: HostRuntime) -> Result<(), AllocError> {
+    let mut rule = Vec::from_slice(rt.alloc(), b"r = ")?;
+    for _ in 0..64 {
+        rule.extend_from_slice(b"rev(")?;
+    }
+    rule.extend_from_slice(b"defer")?;
+    for _ in 0..64 {
+        rule.push(b')')?;
+    }
+    rule.push(b';')?;
+    let mut shelf = full_shelf(rt.alloc(), &rule, DIVIDED)?;
+    let line = b"text refused: TooDeep at byte 260\n";
+    expect_call(&rt, rt.alloc(), COUNT, &mut shelf, 3, b"", line)
+}
+
+// A comment of as many bytes as a rule file may have, and of one more.
+#[test]
+fn a_rule_file_has_a_greatest_length(rt: HostRuntime) -> Result<(), AllocError> {
+    let mut rule = vec![in rt.alloc(); b'#'; 1_048_576]?;
+    let mut shelf = full_shelf(rt.alloc(), &rule, DIVIDED)?;
+    expect_call(&rt, rt.alloc(), COUNT, &mut shelf, 3, b"", EMPTY)?;
+    rule.push(b'#')?;
+    let mut shelf = full_shelf(rt.alloc(), &rule, DIVIDED)?;
+    let line = b"text refused: TextTooLong at byte 1048576\n";
+    expect_call(&rt, rt.alloc(), COUNT, &mut shelf, 3, b"", line)
 }
 
 // The votes behind a comment that is longer than a piece.
@@ -321,5 +566,24 @@ fn a_denial_has_a_status_of_its_own(rt: HostRuntime) -> Result<(), AllocError> {
     assert!(rt; deliver(&mut out, &mut err, &denial) == 1);
     assert!(rt; out.bytes() == b"none\n".as_slice());
     assert!(rt; err.bytes().is_empty());
+    Ok(())
+}
+
+// All rules are asked for before the first of them is run.
+#[test]
+fn an_unserved_module_stops_a_drill(rt: HostRuntime) -> Result<(), AllocError> {
+    let alloc = rt.alloc();
+    let mut bench = Bench::new(alloc);
+    bench.push(Box::new(alloc, FixedCounter::new())?)?;
+    bench.push(Box::new(alloc, PluralityCounter::new())?)?;
+    let mut shelf = full_shelf(alloc, ELECT, DIVIDED)?;
+    let mut out = MemorySink::new(alloc, 8);
+    let mut err = MemorySink::new(alloc, 8);
+    let words = owned(alloc, DRILL)?;
+    let status = virage(alloc, &words, &mut shelf, &mut out, &mut err, &mut bench);
+    assert!(rt; status == 8);
+    assert!(rt; out.bytes().is_empty());
+    assert!(rt; err.bytes() == b"no counter for max(borda)\n".as_slice());
+    assert!(rt; bench.calls_of(1) == Some(0) && bench.runs() == 0);
     Ok(())
 }

@@ -1,2 +1,0 @@
-pub mod PlainRule
-pub mod Plain
