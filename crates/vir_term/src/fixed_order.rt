@@ -76,8 +76,8 @@ impl FixedOrder {
         })
     }
 
-    // Whether the two orders list the same.
-    pub(crate) fn equals(&self, other: &FixedOrder) -> bool
+    /// Whether the two orders list the same.
+    pub fn equals(&self, other: &FixedOrder) -> bool
         ensures { IsTrue result ↔ (self.now ≡ other.now) }
     {
         self.listed.as_slice() == other.listed.as_slice()

@@ -6,12 +6,14 @@
 //! one contract: a `Term` is seen as a pure tree (`specs/Tree.antt`), of which `size`, `equals` and
 //! `copy` speak exactly; `within_limits` tells of any term whether it is within the limits
 //! (`specs/Limits.antt`); and `print` gives its text (`specs/Text.antt`). A `FixedOrder` is its list of
-//! alternatives, without repeats. It stands on std, and on `itoa` for numbers.
+//! alternatives, without repeats. A `Prop` names a property of rules, which `vir_mean` defines. It stands
+//! on std, and on `itoa` for numbers.
 #![tactic(auto)]
 
 mod fixed_order;
 mod leaf;
 mod limits;
+mod prop;
 mod score;
 mod term;
 #[cfg(test)]
@@ -21,5 +23,6 @@ mod text;
 pub use fixed_order::{FixedOrder, MEMBER_LIMIT, OrderFault};
 pub use leaf::{Leaf, LeafKind};
 pub use limits::{COUNT_LIMIT, NESTING_LIMIT, SIZE_LIMIT, is_count};
+pub use prop::Prop;
 pub use score::Score;
 pub use term::Term;

@@ -1,0 +1,42 @@
+/// A property of a voting rule: what its splits are like on every finite set of alternatives and every
+/// profile on it. What each one says is defined where rules have a meaning, in
+/// `vir_mean/specs/Properties.antt`. A number is one that a module may name too: from 1 to
+/// `COUNT_LIMIT`.
+#[derive(Clone, Copy, Debug, PartialEq, Eq)]
+pub enum Prop {
+    /// Electing nobody.
+    Ne,
+    /// Electing all alternatives.
+    Ea,
+    /// Electing somebody.
+    El,
+    /// Deferring just so many.
+    Defers(u32),
+    /// Rejecting just so many.
+    Rejects(u32),
+    /// Rejecting just so many where there are more.
+    Elim(u32),
+    /// Not rejecting all: never blocking.
+    Nb,
+    /// Rejecting somebody where there are two or more: decreasing.
+    Decr,
+    /// Deferred-lift invariance: a lift of a deferred alternative changes nothing.
+    Dli,
+    /// Invariant monotonicity: a lift of an elected alternative leaves the elected as they are, or leaves
+    /// it as the only one.
+    Imono,
+    /// Deferred invariant monotonicity: the same of deferred alternatives, where nobody is elected.
+    Dimono,
+    /// Deferred monotonicity: a lift of a deferred alternative leaves it deferred.
+    Dmono,
+    /// Monotonicity: a lift of an elected alternative leaves it elected.
+    Mono,
+    /// Condorcet consistency: a Condorcet winner alone is elected, and the others are rejected.
+    Cc,
+    /// Deferred Condorcet consistency: a Condorcet winner alone is deferred, and the others are rejected.
+    Dcc,
+    /// Condorcet progress: a Condorcet winner stays deferred, nobody is elected, and somebody else goes.
+    Cprog,
+    /// Condorcet compatibility: a Condorcet winner isn't rejected, and no other alternative is elected.
+    Ccomp,
+}
