@@ -20,7 +20,7 @@ use Rattle.vir_mean.proofs.RestrictionLemmas.{restrict-restrict}
 subset_of_same : (a d : Set) → d ≡ a → set.is_subset a d ≡ true
 subset_of_same a d same = set.contains-is_subset nat_cmp_total a d (λ x member. ap (λ s. set.contains s x) same ∙ member)
 
-same_of_subset : (a d : Set) → IsPart d a → set.is_subset a d ≡ true → d ≡ a
+pub same_of_subset : (a d : Set) → IsPart d a → set.is_subset a d ≡ true → d ≡ a
 same_of_subset a d part subset = same_members d a (λ x. both _ _ (part x) (set.is_subset-contains nat_cmp_total a d subset x))
   where
     both : (in_d in_a : Bool) → (in_d ≡ true → in_a ≡ true) → (in_a ≡ true → in_d ≡ true) → in_d ≡ in_a
@@ -33,7 +33,7 @@ subset_of_other a d part apart = elim (set.is_subset a d) as (λ b. set.is_subse
 ] refl
 
 -- a part without some member is smaller
-len-part_of_other : (a d : Set) → IsPart d a → set.is_subset a d ≡ false → set.len d < set.len a
+pub len-part_of_other : (a d : Set) → IsPart d a → set.is_subset a d ≡ false → set.len d < set.len a
 len-part_of_other a d part other = elim (nat_lt (set.len d) (set.len a)) as (λ b. nat_lt (set.len d) (set.len a) ≡ b → set.len d < set.len a) [
   | true ↦ λ e. grind (arith, nat_tests)
   | false ↦ λ e. absurd (true≢false (sym (subset_of_same a d (whole_part d a part (grind (arith, nat_tests)))) ∙ other))

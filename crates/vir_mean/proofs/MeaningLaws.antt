@@ -29,7 +29,7 @@ eliminated-split a test = elim (set.is_subset a (set.retain a test)) as (λ b. I
 ]
 
 -- each module splits the set
-leaf_mean-split : (l : Leaf) → Splits (leaf_mean l)
+pub leaf_mean-split : (l : Leaf) → Splits (leaf_mean l)
 leaf_mean-split leaf.Elect a lines = all_elected a
 leaf_mean-split leaf.Defer a lines = all_deferred a
 leaf_mean-split (leaf.PassFirst k order) a lines = kept_deferred_rest_rejected a (is_among_first k order a)
@@ -55,7 +55,7 @@ turn-split k body next one other a lines =
       | false ↦ joined-split body next one other a lines
     ]
 
-turns-split : (most k : ℕ) (body : Meaning) → Splits body → Splits (turns most k body)
+pub turns-split : (most k : ℕ) (body : Meaning) → Splits body → Splits (turns most k body)
 unfolding turns
 turns-split zero k body one a lines = all_deferred a
 turns-split (suc most) k body one a lines = turn-split k body (turns most k body) one (turns-split most k body one) a lines

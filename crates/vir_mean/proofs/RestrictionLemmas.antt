@@ -6,7 +6,7 @@ use Rattle.vir_profile.specs.declared.ballot.Entry.{Entry}
 use Rattle.vir_profile.specs.Profiles.{restrict}
 
 -- of two tests the narrower one alone decides
-filter-filter : (wide narrow : ℕ → Bool) → ((x : ℕ) → narrow x ≡ true → wide x ≡ true) → (order : List ℕ) → filter narrow (filter wide order) ≡ filter narrow order
+pub filter-filter : (wide narrow : ℕ → Bool) → ((x : ℕ) → narrow x ≡ true → wide x ≡ true) → (order : List ℕ) → filter narrow (filter wide order) ≡ filter narrow order
 filter-filter wide narrow within [] = refl
 filter-filter wide narrow within (x ∷ rest) = step (filter wide rest) (within x) (filter-filter wide narrow within rest)
   where

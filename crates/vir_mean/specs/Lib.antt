@@ -5,10 +5,14 @@ pub mod FixedOrders
 pub mod Modules
 pub mod Compositions
 pub mod Meaning
+pub mod Lifts
+pub mod Properties
+pub mod Disjointness
 pub mod Numbers
 pub mod Members
 pub mod Extremes
 pub use Rattle.vir_altset.specs.Sets
 pub use Rattle.vir_altset.specs.Splits
 pub use Rattle.vir_profile.specs.Profiles
+pub use Rattle.vir_profile.specs.Winners
 pub use Rattle.vir_term.specs.Tree

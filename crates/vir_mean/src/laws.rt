@@ -1,13 +1,16 @@
 // What holds of meanings on profiles of every size. Each law is the contract of a function that does nothing.
-ghost use Rattle.std.specs.Prelude.{◌≡◌, ℕ, List};
+ghost use Rattle.std.specs.Prelude.{◌≡◌, ℕ, ◌+◌, List, [], ◌∷◌, ◌++◌};
 ghost use Rattle.std.specs.FinSet as set;
 ghost use Rattle.vir_altset.specs.Sets.{Set};
 ghost use Rattle.vir_altset.specs.Splits.{IsSplitOf};
 ghost use Rattle.vir_profile.specs.declared.ballot.Entry.{Entry};
-ghost use Rattle.vir_term.specs.Tree.{Tree, loop};
+ghost use Rattle.vir_term.specs.declared.leaf.Leaf.TheVariants.{PassFirst};
+ghost use Rattle.vir_term.specs.declared.prop.Prop.TheVariants.{Defers};
+ghost use Rattle.vir_term.specs.Tree.{Tree, leaf, loop};
 ghost use Rattle.vir_mean.specs.Modules.{all_deferred};
 ghost use Rattle.vir_mean.specs.Compositions.{turn};
 ghost use Rattle.vir_mean.specs.Meaning.{mean};
+ghost use Rattle.vir_mean.specs.Properties.{Holds};
 
 /// The meaning of each term splits each set: no alternative is in two of the three sets, and together
 /// they are the whole set.
@@ -31,4 +34,18 @@ pub fn loop_goes_by_turns()
 pub fn loop_of_k_alternatives_stops()
     ensures { (k : ℕ) (body : Tree) (a : Set) (lines : List Entry)
         → set.len a ≡ k → mean (loop k body) a lines ≡ all_deferred a lines }
+{}
+
+/// A loop may defer fewer alternatives than it is to end with: a turn that leaves out more than one goes
+/// past that number, as `pass(1)` does on three alternatives where two are to be left.
+pub fn loop_may_stop_below_its_number()
+    ensures { Holds (Defers 2) (mean (loop 2 (leaf (PassFirst 1 [])))) → ⊥ }
+{}
+
+/// A line of a profile may be split into two with the same order, whose weights add up to that of the
+/// line: how the voters of an order are spread over lines makes no difference to what a rule does.
+pub fn line_may_be_split()
+    ensures { (t : Tree) (a : Set) (p q : List Entry) (v w : ℕ) (o : List ℕ)
+        → mean t a (p ++ record { weight = v + w; order = o } ∷ q)
+        ≡ mean t a (p ++ record { weight = v; order = o } ∷ record { weight = w; order = o } ∷ q) }
 {}

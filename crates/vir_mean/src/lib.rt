@@ -7,8 +7,13 @@
 //! `plain_result` gives that meaning on a part of a profile's alternatives, by restricting the ballots
 //! literally; `eliminate`, `elect_plurality_winners` and `first_members` give what the modules of their
 //! names do, over whatever tallies the ballots (`Tally`); and for every term, set and profile the
-//! meaning splits the set, so that on no alternatives it is three empty sets, and a loop goes turn by
-//! turn (`laws.rt`). It stands on `vir_profile` and `vir_term`.
+//! meaning splits the set, so that on no alternatives it is three empty sets, a loop goes turn by turn,
+//! and a line of the profile may be split (`laws.rt`). What properties say of a meaning is defined here
+//! too (`Properties.antt`, with `Lifts.antt` and `Disjointness.antt`), and what they rest on is proved: a
+//! lift, which moves one alternative towards the front of ballots and changes nothing else, never lowers
+//! a score of that alternative nor raises one of another (`lift_laws.rt`); and a Condorcet winner's
+//! scores are above those of the others, or above the average (`winner_laws.rt`). It stands on
+//! `vir_profile` and `vir_term`.
 #![tactic(auto)]
 
 mod bounds;
@@ -17,6 +22,7 @@ mod compositions;
 mod elimination;
 mod fixed_orders;
 mod laws;
+mod lift_laws;
 mod lines;
 mod members;
 mod modules;
@@ -24,16 +30,23 @@ mod plain;
 mod restriction;
 mod scores;
 mod tally;
+mod winner_laws;
 
 pub use compositions::{joined, merged, revised};
 pub use elimination::{Elimination, elect_plurality_winners, eliminate, eliminate_by_scores};
 pub use fixed_orders::first_members;
 pub use laws::{
-    loop_goes_by_turns, loop_of_k_alternatives_stops, meanings_are_splits,
-    nothing_is_split_into_nothing,
+    line_may_be_split, loop_goes_by_turns, loop_may_stop_below_its_number,
+    loop_of_k_alternatives_stops, meanings_are_splits, nothing_is_split_into_nothing,
+};
+pub use lift_laws::{
+    changed_score_raises_the_lifted, lifted_leader_by_condorcet_score, lifted_score_never_falls,
+    no_other_score_rises, restricted_lift, restriction_without_the_lifted,
+    unchanged_profile_is_a_lift,
 };
 pub use lines::Lines;
 pub use members::list_members;
 pub use plain::plain_result;
 pub use scores::{fill_scores, score_of};
 pub use tally::{PLACES, Tally};
+pub use winner_laws::{condorcet_winner_is_above_the_borda_average, condorcet_winner_leads};

@@ -7,6 +7,8 @@
 #[cfg(test)]
 mod laws;
 #[cfg(test)]
+mod properties;
+#[cfg(test)]
 mod rules;
 #[cfg(test)]
 mod splits;

@@ -10,12 +10,14 @@ use vir_profile::Split;
 use vir_term::LeafKind::{Below, Defer, Elect, Max, Min, Plurality, Upto};
 use vir_term::Score;
 
-type Members = &'static [u16];
+/// Alternatives.
+pub type Members = &'static [u16];
 
-// A rule, a set, and what of it is elected, rejected and deferred.
-type Row = (&'static [Word], Members, Members, Members, Members);
+/// A rule, a set, and what of it is elected, rejected and deferred.
+pub type Row = (&'static [Word], Members, Members, Members, Members);
 
-const ALL: Members = &[1, 2, 3];
+/// All three alternatives.
+pub const ALL: Members = &[1, 2, 3];
 
 fn is_split(split: &Split, elected: Members, rejected: Members, deferred: Members) -> bool {
     split.elected.equals(&set_of(elected))
@@ -23,8 +25,8 @@ fn is_split(split: &Split, elected: Members, rejected: Members, deferred: Member
         && split.deferred.equals(&set_of(deferred))
 }
 
-// Counts each rule on its set, and wants its split.
-fn expect_splits(
+/// Counts each rule on its set, and wants its split.
+pub fn expect_splits(
     rt: &impl Abort,
     alloc: Global,
     votes: Votes<'_>,

@@ -1,0 +1,60 @@
+// Properties that rules lack, and profiles that show it.
+use crate::rules::Word;
+use crate::rules::Word::{Loop, Module, Par, Pass, Seq};
+use crate::splits::{ALL, Row, expect_splits};
+use crate::votes::{CYCLE, DIVIDED, Votes};
+use std::test::Fail;
+use vir_term::LeafKind::{Defer, Elect, Max, Min, Plurality};
+use vir_term::Score;
+
+// The alternative that fewest put first goes, until one is left, who is elected.
+const INSTANT_RUNOFF: &[Word] = &[Module(Min(Score::Plurality)), Loop(1), Module(Elect), Seq];
+
+// First 3 goes, with 5 first places to 6 and 6; its voters prefer 1 to 2.
+const BEFORE: Votes<'static> = &[
+    (6, [1, 2, 3]),
+    (5, [3, 1, 2]),
+    (4, [2, 3, 1]),
+    (2, [2, 1, 3]),
+];
+
+// Two voters lift 1. Now 2 goes first, with 4 first places, and its voters prefer 3 to 1.
+const AFTER: Votes<'static> = &[
+    (6, [1, 2, 3]),
+    (5, [3, 1, 2]),
+    (4, [2, 3, 1]),
+    (2, [1, 2, 3]),
+];
+
+// Two voters prefer 1 to 2, and then lift 2. No rule is asked about 3.
+const LOW: Votes<'static> = &[(2, [1, 2, 3]), (1, [2, 1, 3])];
+
+const RISEN: Votes<'static> = &[(2, [2, 1, 3]), (1, [2, 1, 3])];
+
+const WINNERS_OR_ALL: &[Word] = &[Module(Plurality), Module(Defer), Par];
+
+const FAILURES: &[(Votes<'static>, Row)] = &[
+    // Condorcet consistency of plurality: 2 beats both others, and 1 is elected.
+    (
+        DIVIDED,
+        (&[Module(Max(Score::Condorcet))], ALL, &[], &[1, 3], &[2]),
+    ),
+    (DIVIDED, (&[Module(Plurality)], ALL, &[1], &[2, 3], &[])),
+    // Monotonicity of instant runoff: 1 is elected, rises, and is rejected.
+    (BEFORE, (INSTANT_RUNOFF, ALL, &[1], &[2, 3], &[])),
+    (AFTER, (INSTANT_RUNOFF, ALL, &[3], &[1, 2], &[])),
+    // Deferred-lift invariance where the winners are elected and all others deferred: 2 is deferred,
+    // rises, and is elected.
+    (LOW, (WINNERS_OR_ALL, &[1, 2], &[1], &[], &[2])),
+    (RISEN, (WINNERS_OR_ALL, &[1, 2], &[2], &[], &[1])),
+    // Two are to be deferred, and the first turn leaves one.
+    (CYCLE, (&[Pass(1, &[]), Loop(2)], ALL, &[], &[2, 3], &[1])),
+];
+
+#[test]
+fn properties_that_fail(rt: HostRuntime) -> Result<(), Fail> {
+    for (votes, row) in FAILURES {
+        expect_splits(&rt, rt.alloc(), votes, &[*row])?;
+    }
+    Ok(())
+}
