@@ -1,0 +1,13 @@
+pub mod Claims
+pub mod Props
+pub mod Families
+pub mod Forms
+pub mod Table
+pub mod Premises
+pub mod RuleTrees
+pub mod Derivations
+pub mod BadNodes
+pub mod UnfitNames
+pub mod Reasons
+pub mod Texts
+pub mod Seen
