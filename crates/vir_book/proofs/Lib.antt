@@ -5,3 +5,4 @@ pub mod RoundTrip
 pub mod StepLemmas
 pub mod ShorterLemmas
 pub mod FuelLemmas
+pub mod WithinLaws

@@ -1,11 +1,11 @@
-//! Laws of rule files: what is printed is read as what it was printed from. The functions do nothing; their contracts
-//! are what is proved of the language's definitions.
+//! Laws of rule files: what is printed is read as what it was printed from, and what is read is within the limits. The
+//! functions do nothing; their contracts are what is proved of the language's definitions.
 ghost use Rattle.std.specs.Prelude.{ℕ, ◌≡◌, ◌≤◌, ◌∷◌, [], List, Ok, None, length, true};
 ghost use Rattle.vir_term.specs.Tree.{Tree};
 ghost use Rattle.vir_term.specs.Limits.{IsWithinLimits};
 ghost use Rattle.vir_read.specs.BuiltIns.{built_in_named};
 ghost use Rattle.vir_read.specs.Printed.{is_name, definition_text};
-ghost use Rattle.vir_book.specs.Books.{Entry, entry, text_limit, book_of};
+ghost use Rattle.vir_book.specs.Books.{Entry, entry, text_limit, book_of, rule_of};
 ghost use Rattle.vir_book.specs.Printed.{book_text, AreDefinable, name_limit};
 
 /// A printed term is read as itself: the rule file `NAME=TERM;` defines that term under that name, for each word
@@ -20,4 +20,9 @@ pub fn printed_rules_are_read()
 pub fn printed_books_are_read()
     ensures { (e : Entry) (rest : List Entry) → AreDefinable [] (e ∷ rest)
         → length (book_text (e ∷ rest)) ≤ text_limit → book_of (book_text (e ∷ rest)) ≡ Ok (e ∷ rest) }
+{}
+
+/// The rule of a rule file is within the limits.
+pub fn rules_are_within_limits()
+    ensures { (text : List ℕ) (t : Tree) → rule_of text ≡ Ok t → IsWithinLimits t }
 {}

@@ -17,4 +17,4 @@ mod laws;
 mod tests;
 
 pub use book::{Book, TEXT_LIMIT, read_book};
-pub use laws::{printed_books_are_read, printed_rules_are_read};
+pub use laws::{printed_books_are_read, printed_rules_are_read, rules_are_within_limits};
