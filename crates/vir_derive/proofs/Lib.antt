@@ -1,0 +1,12 @@
+pub mod Rows
+pub mod Deriving
+pub mod Disjointness
+pub mod Smaller
+pub mod Numbers
+pub mod Serving
+pub mod Telling
+pub mod Marking
+pub mod PremiseMarks
+pub mod Answering
+pub mod Deciding
+pub mod Closing

@@ -1,0 +1,85 @@
+ghost use Rattle.std.specs.Prelude.{◌≡◌, ◌↔◌, IsTrue, IfOk};
+ghost use Rattle.either.specs.Either.{is_left};
+ghost use Rattle.vir_term.specs.Tree.{tree};
+ghost use Rattle.vir_rules.specs.Claims.{claim, of};
+ghost use Rattle.vir_rules.specs.Derivations.{Derivable};
+ghost use Rattle.vir_derive.specs.Answers.{Answers};
+ghost use Rattle.vir_derive.specs.Marks.{AreMarks};
+
+use crate::marked::MarkedJudgement;
+use crate::marks::Marks;
+use crate::signature::Signature;
+use either::Either;
+use std::alloc::{AllocError, Global};
+use vir_rules::{Derivation, Judgement, Prop, Why};
+use vir_term::{Leaf, Term};
+
+/// All that can be derived of a term. Asking for many properties takes no longer than finding this once
+/// and writing the answers.
+#[derive(Drop)]
+pub struct Derivations<'a> {
+    pub term: &'a Term,
+    marks: Marks,
+    ghost marked: { ∥ AreMarks marks (tree term.now) ∥₁ },
+}
+
+impl<'a> Derivations<'a> {
+    /// All that can be derived of the term.
+    pub fn of(alloc: Global, term: &'a Term) -> Result<Derivations<'a>, AllocError>
+        ensures { IfOk result (λ derivations. derivations.term.now ≡ term.now) }
+    {
+        let marks = Marks::of(alloc, term)?;
+        Ok(Derivations { term, marks })
+    }
+
+    /// Whether the term has a derivation of the property.
+    pub fn derives(&self, prop: Prop) -> bool
+        ensures { IsTrue result ↔ Derivable (of prop (tree self.now.term.now)) }
+    {
+        self.marks.own().has(prop)
+    }
+
+    /// The first derivation of the property of the term, or the reasons against it: for each rule that fits
+    /// its first premise that can't be derived.
+    pub fn derive(
+        &self,
+        alloc: Global,
+        prop: Prop,
+    ) -> Result<Either<Derivation, Why<'a>>, AllocError>
+        ensures answer { IfOk result (λ answer. Answers answer (of prop (tree self.now.term.now))) }
+        ensures derivable { IfOk result (λ answer. IsTrue (is_left answer) ↔ Derivable (of prop (tree self.now.term.now))) }
+    {
+        let judgement = Judgement::Of {
+            prop,
+            term: self.term,
+        };
+        let marked = MarkedJudgement {
+            judgement,
+            marks: &self.marks,
+        };
+        marked.answer(alloc)
+    }
+}
+
+/// The first derivation of a judgement, or the reasons against it: for each rule that fits its first premise
+/// that can't be derived. It is a derivation just where the judgement is derivable.
+pub fn derive<'a>(
+    alloc: Global,
+    judgement: Judgement<'a>,
+) -> Result<Either<Derivation, Why<'a>>, AllocError>
+    ensures answer { IfOk result (λ answer. Answers answer (claim judgement.entry)) }
+    ensures derivable { IfOk result (λ answer. IsTrue (is_left answer) ↔ Derivable (claim judgement.entry)) }
+{
+    match judgement {
+        Judgement::Of { prop, term } => Derivations::of(alloc, term)?.derive(alloc, prop),
+        Judgement::Disj { .. } => {
+            // Disjointness is told by heads alone: these marks are of no term.
+            let marks = Marks::Leaf(Signature::of_leaf(&Leaf::Elect));
+            let marked = MarkedJudgement {
+                judgement,
+                marks: &marks,
+            };
+            marked.answer(alloc)
+        }
+    }
+}

@@ -1,0 +1,10 @@
+//! The tests of `vir_derive`, in a crate of their own: first derivations of small rules, and reasons
+//! against others.
+//!
+//! There is no code but the tests, so the crate has no contract, and `vir_derive` is proved without them.
+//! It stands on `vir_derive` and `vir_rules`, on `vir_term`, `vir_read` and `vir_book` for the terms, and on
+//! `either`.
+#![tactic(auto)]
+
+#[cfg(test)]
+mod answers;
