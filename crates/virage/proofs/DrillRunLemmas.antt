@@ -13,14 +13,14 @@ use Rattle.vir_term.specs.declared.term.Term.{Term}
 use Rattle.vir_term.specs.Kinds.{kind_of}
 use Rattle.vir_term.specs.Limits.{IsWithinLimits}
 use Rattle.vir_term.specs.Tree.{Tree, tree, leaf, rev, seq, par, loop}
-use Rattle.virage.specs.DrillResults.{AreWithinLimits, MadeFirst, drill_terms, drill_text, first_unserved_of, runs_on}
+use Rattle.virage.specs.DrillResults.{AreWithinLimits, MadeFirst, drill_terms, drill_text, elected_lines, first_unserved_of, runs_on, size_line}
 use Rattle.virage.specs.declared.answer.Answer.{Answer}
 use Rattle.virage.specs.declared.answer.Answer.TheVariants.{Text, Denial}
 use Rattle.virage.specs.declared.stop.Stop.{Stop}
 use Rattle.virage.specs.declared.stop.Stop.TheVariants as stop
 use Rattle.vir_outside.specs.Shelf.{Files}
-use Rattle.virage.specs.Answer.{Began, IsAnswer, Leaves}
-use Rattle.virage.specs.Fate.{Fate, drill_fate, prints, served_fate}
+use Rattle.virage.specs.Answer.{Began, IsAnswer, IsPrinted, Leaves}
+use Rattle.virage.specs.Fate.{Fate, drill_fate, exactly, prints, served_fate}
 use Rattle.virage.specs.Runs.{BenchView, Run, after_run, after_runs, served_by}
 
 -- ---- the first of some terms, and the others
@@ -99,11 +99,24 @@ wanting_after_runs votes made asked terms old new answer is same asked_is terms_
     record {
       first = some.first;
       rest = some.rest;
-      text = drill_text votes;
-      is_fate = inr (ap (λ (o : Option Leaf). served_fate o (prints (runs_on votes drill_terms) (drill_text votes))) served ∙ ap (λ (runs : List Run). prints runs (drill_text votes)) all_runs);
+      wording = exactly (drill_text votes);
+      is_fate = inr (ap (λ (o : Option Leaf). served_fate o (prints (runs_on votes drill_terms) (exactly (drill_text votes)))) served ∙ ap (λ (runs : List Run). prints runs (exactly (drill_text votes))) all_runs);
       made = some.made;
     } in
     rw is (tt, inr began)
+
+-- where all runs are made, their results are printed
+pub drill_printed : (votes made : Votes) (asked terms : List Tree) (old new : BenchView) (text : List ℕ) → made ≡ votes → asked ≡ drill_terms → terms ≡ drill_terms → first_unserved_of (served_by old) asked ≡ None
+    → text ≡ size_line made ++ elected_lines made terms → new ≡ after_runs (runs_on made terms) old → IsPrinted (drill_fate (served_by old) votes) old new text
+drill_printed votes made asked terms old new text same asked_is terms_is none is ran =
+    let served : first_unserved_of (served_by old) drill_terms ≡ None = sym (ap (first_unserved_of (served_by old)) asked_is) ∙ none in
+    record {
+      runs = runs_on votes drill_terms;
+      wording = exactly (drill_text votes);
+      is_fate = inr (ap (λ (o : Option Leaf). served_fate o (prints (runs_on votes drill_terms) (exactly (drill_text votes)))) served);
+      is_text = is ∙ ap (λ (v : Votes). size_line v ++ elected_lines v terms) same ∙ ap (λ (ts : List Tree). size_line votes ++ elected_lines votes ts) terms_is;
+      made = ran ∙ ap (λ (v : Votes). after_runs (runs_on v terms) old) same ∙ ap (λ (ts : List Tree). after_runs (runs_on votes ts) old) terms_is;
+    }
 
 -- what the work of `drill` answers, the command answers
 pub drill_answer : (fate : Fate) (can_deny read_rose : Type 0) (old new : BenchView) (answer : Result Answer Stop) → IsAnswer fate ⊥ ⊥ old new answer → IsAnswer fate can_deny read_rose old new answer

@@ -13,7 +13,7 @@ use Rattle.vir_term.specs.declared.score.Score.TheVariants.{Borda, Copeland}
 use Rattle.vir_term.specs.Limits.{IsWithinLimits}
 use Rattle.vir_term.specs.Text.{term_text}
 use Rattle.vir_term.specs.Tree.{Tree, leaf, seq, loop}
-use Rattle.virage.specs.ResultText.{set_line}
+use Rattle.vir_report.specs.ResultText.{set_line}
 use Rattle.virage.specs.Runs.{BenchView, Run, after_runs}
 
 -- the rules, in order

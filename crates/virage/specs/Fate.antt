@@ -1,8 +1,7 @@
 -- What a call comes to by its words and what it is given, device faults and want of memory aside.
-use Rattle.std.specs.Prelude.{ℕ, List, [], ◌∷◌, None, Some, Result, Ok, Err, is_some, map, string_bytes, if◌then◌else◌}
+use Rattle.std.specs.Prelude.{◌≡◌, ℕ, List, [], ◌∷◌, None, Some, Result, Ok, Err, is_some, map, string_bytes, if◌then◌else◌}
 use Rattle.std.specs.declared.option.Option.{Option}
 use Rattle.std.specs.declared.string.String.{String}
-use Rattle.vir_altset.specs.Sets.{all}
 use Rattle.vir_code.specs.Code.{code_of}
 use Rattle.vir_code.specs.Listing.{listing_text}
 use Rattle.vir_outside.specs.Shelf.{Files, told_content}
@@ -14,14 +13,13 @@ use Rattle.vir_term.specs.declared.leaf.LeafKind.{LeafKind}
 use Rattle.vir_term.specs.Text.{leaf_text}
 use Rattle.vir_term.specs.Tree.{Tree}
 use Rattle.vir_machine.specs.Uses.{first_unserved}
-use Rattle.vir_mean.specs.Meaning.{mean}
 use Rattle.virage.specs.declared.stop.Stop.{Stop}
 use Rattle.virage.specs.declared.stop.Stop.TheVariants as stop
-use Rattle.virage.specs.Command.{Command, count, drill, listing, command_of}
+use Rattle.virage.specs.Command.{Command, count, drill, listing, report, command_of}
 use Rattle.vir_book.specs.Books.{rule_of}
 use Rattle.virage.specs.Drill.{drill_votes}
 use Rattle.virage.specs.DrillResults.{drill_terms, drill_text, first_unserved_of, runs_on}
-use Rattle.virage.specs.ResultText.{result_text}
+use Rattle.virage.specs.Reports.{IsReport, count_text}
 use Rattle.virage.specs.Runs.{Run}
 use Rattle.virage.specs.Stops.{refused_text, refused_profile}
 
@@ -34,15 +32,27 @@ pub record Given : Type 0 where
 abbrev pub given : Option Files → List (List LeafKind) → Given
 given files kinds = record { files = files; kinds = kinds }
 
+-- A text that a call is to print.
+pub data Wording : Type 0 where
+  -- this text
+  exactly : List ℕ → Wording
+  -- a report of a rule on a profile with names
+  report_of : Tree → File → Wording
+
+-- The bytes are such a text.
+abbrev pub IsWorded : Wording → List ℕ → Type 0
+IsWorded (exactly text) bytes = bytes ≡ text
+IsWorded (report_of term file) bytes = IsReport term file bytes
+
 pub data Fate : Type 0 where
   -- the shelf doesn't tell its files
   untold : Fate
   -- no text is printed, for this reason
   stops : Stop → Fate
-  -- these runs are made, and this text is printed
-  prints : List Run → List ℕ → Fate
-  -- this text, a negative answer, is printed
-  denies : List ℕ → Fate
+  -- these runs are made, and such a text is printed
+  prints : List Run → Wording → Fate
+  -- such a text, a negative answer, is printed
+  denies : Wording → Fate
 
 -- by what a file says
 abbrev pub said_fate : {T F : Type 0} → (F → Stop) → (T → Fate) → Result T F → Fate
@@ -67,27 +77,28 @@ with_rule given name goes_on = with_file rule_of refused_text given name goes_on
 abbrev pub with_profile : Given → List ℕ → (File → Fate) → Fate
 with_profile given name goes_on = with_file soc refused_profile given name goes_on
 
--- what a rule elects, rejects and defers of all alternatives of a profile, as a text
-abbrev pub count_text : Tree → Votes → List ℕ
-count_text rule votes = result_text (mean rule (all votes.alternatives) votes.lines)
-
 -- by the first module that no counter serves, if there is one
 abbrev pub served_fate : Option Leaf → Fate → Fate
 served_fate None goes_on = goes_on
 served_fate (Some leaf) goes_on = stops (stop.NoCounter (leaf_text leaf))
 
--- what counting a profile with a rule comes to, over counters of these kinds
-abbrev pub counted_fate : List (List LeafKind) → Tree → Votes → Fate
-counted_fate kinds rule votes = served_fate (first_unserved kinds rule) (prints (record { term = rule; votes = votes } ∷ []) (count_text rule votes))
+-- what a run of a rule on a profile comes to, for such a text, over counters of these kinds
+abbrev pub run_fate : List (List LeafKind) → Tree → Votes → Wording → Fate
+run_fate kinds rule votes wording = served_fate (first_unserved kinds rule) (prints (record { term = rule; votes = votes } ∷ []) wording)
+
+-- what a run of the rule of one file on the profile of another comes to, for such a text
+abbrev pub files_fate : Given → List ℕ → List ℕ → (Tree → File → Wording) → Fate
+files_fate given rule profile wording = with_rule given rule (λ term. with_profile given profile (λ file. run_fate given.kinds term file.profile (wording term file)))
 
 -- what the rules of `drill` on a profile come to, over counters of these kinds
 abbrev pub drill_fate : List (List LeafKind) → Votes → Fate
-drill_fate kinds votes = served_fate (first_unserved_of kinds drill_terms) (prints (runs_on votes drill_terms) (drill_text votes))
+drill_fate kinds votes = served_fate (first_unserved_of kinds drill_terms) (prints (runs_on votes drill_terms) (exactly (drill_text votes)))
 
 -- what a command comes to
 abbrev pub command_fate : Given → Command → Fate
-command_fate given (count rule profile) = with_rule given rule (λ term. with_profile given profile (λ file. counted_fate given.kinds term file.profile))
-command_fate given (listing rule) = with_rule given rule (λ term. prints [] (listing_text (code_of term)))
+command_fate given (count rule profile) = files_fate given rule profile (λ term file. exactly (count_text term file.profile))
+command_fate given (report rule profile) = files_fate given rule profile report_of
+command_fate given (listing rule) = with_rule given rule (λ term. prints [] (exactly (listing_text (code_of term))))
 command_fate given (drill seed lines alternatives) = drill_fate given.kinds (drill_votes seed lines alternatives)
 
 -- what words come to that are this command, or none

@@ -7,7 +7,7 @@ use Rattle.vir_book.specs.declared.book.TheConstants.{TEXT_LIMIT}
 use Rattle.vir_soc.specs.declared.soc_reader.TheConstants.{SIZE_LIMIT}
 use Rattle.virage.specs.declared.file_stop.FileStop.{FileStop}
 use Rattle.virage.specs.declared.file_stop.FileStop.TheVariants.{Fault, Refused, Memory}
-use Rattle.virage.specs.Command.{Command, count, drill, listing, command_of}
+use Rattle.virage.specs.Command.{Command, count, drill, listing, report, command_of}
 
 -- A file that a command may come to: its name, and how many bytes one of its kind may have.
 pub record AskedFile : Type 0 where
@@ -17,6 +17,7 @@ pub record AskedFile : Type 0 where
 -- the files that a command comes to, one after another, as long as none stops it
 abbrev pub files_of : Command → List AskedFile
 files_of (count rule profile) = record { name = rule; limit = TEXT_LIMIT } ∷ record { name = profile; limit = SIZE_LIMIT } ∷ []
+files_of (report rule profile) = record { name = rule; limit = TEXT_LIMIT } ∷ record { name = profile; limit = SIZE_LIMIT } ∷ []
 files_of (listing rule) = record { name = rule; limit = TEXT_LIMIT } ∷ []
 files_of (drill seed lines alternatives) = []
 

@@ -1,11 +1,12 @@
 pub mod Command
 pub mod Stops
 pub mod Files
-pub mod ResultText
 pub mod Runs
+pub mod Reports
 pub mod Fate
 pub mod Delivery
 pub mod Answer
+pub mod Headline
 pub mod Feeding
 pub mod Drill
 pub mod DrillResults

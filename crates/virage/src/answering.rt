@@ -13,6 +13,7 @@ use crate::command::{Command, read_words};
 use crate::count::count;
 use crate::drill::drill;
 use crate::listing::listing;
+use crate::report::report;
 use crate::stop::Stop;
 use std::alloc::Global;
 use vir_counter::Counter;
@@ -38,6 +39,7 @@ fn command_answer<S: Shelf>(
 {
     match command {
         Command::Count { rule, profile } => count(alloc, shelf, bench, rule, profile),
+        Command::Report { rule, profile } => report(alloc, shelf, bench, rule, profile),
         Command::Listing { rule } => listing(alloc, shelf, rule),
         Command::Drill {
             seed,

@@ -1,7 +1,7 @@
 // The words of the command line.
 ghost use Rattle.std.specs.Prelude.{◌≡◌, IfSome, map, string_bytes};
 ghost use Rattle.std.specs.Option.{option_map};
-ghost use Rattle.virage.specs.Command.{IsInRange, command_of, command_seen, drill_words};
+ghost use Rattle.virage.specs.Command.{IsInRange, command_of, command_seen, drill_words, two_file_words};
 
 use crate::drill_profile::{DRILL_LINES_LIMIT, DRILL_SEED_LIMIT};
 use crate::word_number::word_number;
@@ -12,6 +12,11 @@ use vir_profile::LIMIT;
 pub enum Command<'a> {
     /// Counts the profile with the rule.
     Count {
+        rule: &'a str,
+        profile: &'a str,
+    },
+    /// Reports on the rule and the profile.
+    Report {
         rule: &'a str,
         profile: &'a str,
     },
@@ -42,16 +47,25 @@ fn read_drill<'a>(seed: &str, lines: &str, alternatives: &str) -> Option<Command
     })
 }
 
+// The command of this name on a rule file and a profile, where there is one.
+fn read_two_files<'a>(first: &str, rule: &'a str, profile: &'a str) -> Option<Command<'a>>
+    ensures command { option_map command_seen result ≡ two_file_words first.now rule.now profile.now }
+    ensures range { IfSome result (λ command. IsInRange (command_seen command)) }
+{
+    match first {
+        "count" => Some(Command::Count { rule, profile }),
+        "report" => Some(Command::Report { rule, profile }),
+        _ => None,
+    }
+}
+
 /// The command that the words are; None exactly where they are no command.
 pub fn read_words(words: &[String]) -> Option<Command<'_>>
     ensures command { option_map command_seen result ≡ command_of (map string_bytes words.now) }
     ensures range { IfSome result (λ command. IsInRange (command_seen command)) }
 {
     match words {
-        [first, rule, profile] if first.as_str() == "count" => Some(Command::Count {
-            rule: rule.as_str(),
-            profile: profile.as_str(),
-        }),
+        [first, rule, profile] => read_two_files(first, rule, profile),
         [first, rule] if first.as_str() == "listing" => {
             let rule = rule.as_str();
             Some(Command::Listing { rule })

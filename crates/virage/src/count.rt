@@ -1,64 +1,40 @@
 // What a rule elects, rejects and defers of a profile.
-ghost use Rattle.std.specs.Prelude.{◌≡◌, ◌≤◌, true, IfOk, OnOk, OnErr, IsErrOf};
-ghost use Rattle.vir_altset.specs.Sets.{all};
-ghost use Rattle.vir_machine.specs.Uses.{all_served};
-ghost use Rattle.vir_mean.specs.Meaning.{mean};
+ghost use Rattle.std.specs.Prelude.{◌≡◌, ◌≤◌, IsErrOf};
 ghost use Rattle.vir_outside.specs.Faults.{Rose};
 ghost use Rattle.vir_outside.specs.Shelf.{Lacks};
 ghost use Rattle.vir_term.specs.Limits.{IsWithinLimits};
 ghost use Rattle.vir_term.specs.Tree.{tree};
 ghost use Rattle.virage.specs.Answer.{Answers, IsAnswer, Leaves};
 ghost use Rattle.virage.specs.Command.{count};
-ghost use Rattle.virage.specs.Fate.{counted_fate, given};
+ghost use Rattle.virage.specs.Fate.{exactly, given, run_fate};
 ghost use Rattle.virage.specs.Files.{files_of};
-ghost use Rattle.virage.specs.Runs.{after_run, bench_view, served_by};
+ghost use Rattle.virage.specs.Reports.{count_text};
+ghost use Rattle.virage.specs.Runs.{bench_view, served_by};
 
 use crate::answer::Answer;
 use crate::leaf_text::LeafText;
 use crate::profile_file::profile_file;
-use crate::result_text::result_text;
 use crate::rule_file::rule_file;
+use crate::run::split_of_file;
 use crate::stop::Stop;
-use std::alloc::{AllocError, Global};
-use vir_compile::compile;
+use std::alloc::Global;
 use vir_counter::Counter;
-use vir_machine::{Bench, Machine};
+use vir_machine::Bench;
 use vir_outside::Shelf;
-use vir_profile::{AltSet, SocFile, Split};
-use vir_tables::Election;
+use vir_profile::SocFile;
+use vir_report::result_text;
 use vir_term::Term;
-
-// The split that the rule gives of all alternatives of the profile, by a run on the bench.
-fn split_of(
-    alloc: Global,
-    bench: &mut Bench,
-    rule: &Term,
-    file: SocFile,
-) -> Result<Split, AllocError>
-    requires within { IsWithinLimits (tree rule.now) }
-    requires served { all_served (served_by (bench_view ⟦<Box<dyn Counter> as Counter>⟧ bench.old)) (tree rule.now) ≡ true }
-    ensures split { IfOk result (λ split. split ≡ mean (tree rule.now) (all file.profile.alternatives) file.profile.lines) }
-    ensures ran { OnOk result (bench_view ⟦<Box<dyn Counter> as Counter>⟧ bench.new
-        ≡ after_run (record { term = tree rule.now; votes = file.profile }) (bench_view ⟦<Box<dyn Counter> as Counter>⟧ bench.old)) }
-    ensures stays { OnErr result (bench_view ⟦<Box<dyn Counter> as Counter>⟧ bench.new ≡ bench_view ⟦<Box<dyn Counter> as Counter>⟧ bench.old) }
-{
-    let election = Election::of(alloc, file)?;
-    let code = compile(alloc, rule)?;
-    let mut machine = Machine::new(alloc, code.depth())?;
-    let domain = AltSet::all(election.alternatives());
-    Ok(machine.run(&code, &election, bench, &domain))
-}
 
 // Answers `count` for a rule and a profile.
 fn counted(alloc: Global, bench: &mut Bench, rule: &Term, file: SocFile) -> Result<Answer, Stop>
     requires { IsWithinLimits (tree rule.now) }
     ensures { let old = bench_view ⟦<Box<dyn Counter> as Counter>⟧ bench.old in
-        IsAnswer (counted_fate (served_by old) (tree rule.now) file.profile) ⊥ ⊥ old (bench_view ⟦<Box<dyn Counter> as Counter>⟧ bench.new) result }
+        IsAnswer (run_fate (served_by old) (tree rule.now) file.profile (exactly (count_text (tree rule.now) file.profile))) ⊥ ⊥ old (bench_view ⟦<Box<dyn Counter> as Counter>⟧ bench.new) result }
 {
     if let Some(leaf) = bench.first_unserved(rule) {
         return Err(Stop::NoCounter(LeafText::of(alloc, leaf)?));
     }
-    let split = split_of(alloc, bench, rule, file)?;
+    let split = split_of_file(alloc, bench, rule, file)?;
     Ok(Answer::Text(result_text(alloc, &split)?))
 }
 

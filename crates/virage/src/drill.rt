@@ -1,31 +1,27 @@
 // What the rules of `drill` elect of its generated profile.
-ghost use Rattle.std.specs.Prelude.{◌≡◌, ◌≤◌, ◌++◌, ◌∷◌, [], codes, decimal, length, map, true, None, IfOk, OnOk, OnErr};
+ghost use Rattle.std.specs.Prelude.{◌≡◌, ◌≤◌, ◌++◌, ◌∷◌, [], codes, decimal, length, map, None, IfOk, OnOk, OnErr};
 ghost use Rattle.std.specs.Option.{option_copied};
-ghost use Rattle.vir_altset.specs.Sets.{all};
-ghost use Rattle.vir_machine.specs.Uses.{all_served};
-ghost use Rattle.vir_mean.specs.Meaning.{mean};
-ghost use Rattle.vir_term.specs.Limits.{IsWithinLimits};
 ghost use Rattle.vir_term.specs.Text.{term_text};
 ghost use Rattle.vir_term.specs.Tree.{tree};
 ghost use Rattle.virage.specs.Answer.{IsAnswer};
 ghost use Rattle.virage.specs.Drill.{drill_votes};
 ghost use Rattle.virage.specs.DrillResults.{AreWithinLimits, MadeFirst, elected_lines, first_unserved_of, runs_on, size_line};
 ghost use Rattle.virage.specs.Fate.{drill_fate};
-ghost use Rattle.virage.specs.ResultText.{set_line};
-ghost use Rattle.virage.specs.Runs.{after_run, after_runs, bench_view, served_by};
+ghost use Rattle.vir_report.specs.ResultText.{set_line};
+ghost use Rattle.virage.specs.Runs.{after_runs, bench_view, served_by};
 
 use crate::answer::Answer;
 use crate::drill_profile::{DRILL_LINES_LIMIT, drill_profile};
 use crate::drill_terms::drill_terms;
 use crate::leaf_text::LeafText;
-use crate::result_text::push_set;
+use crate::run::split_of;
 use crate::stop::Stop;
 use itoa::Buffer;
 use std::alloc::{AllocError, Global};
-use vir_compile::compile;
 use vir_counter::Counter;
-use vir_machine::{Bench, Machine};
-use vir_profile::{AltSet, LIMIT, Profile, SocFile, Split};
+use vir_machine::Bench;
+use vir_profile::{LIMIT, Profile, SocFile, Split};
+use vir_report::push_set;
 use vir_tables::Election;
 use vir_term::{Leaf, Term};
 
@@ -40,26 +36,6 @@ fn first_unserved_of<'a>(bench: &Bench, terms: &'a [Term]) -> Option<&'a Leaf>
             None => first_unserved_of(bench, rest),
         },
     }
-}
-
-// The split that the rule gives of all alternatives of the election, by a run on the bench.
-fn split_of(
-    alloc: Global,
-    bench: &mut Bench,
-    rule: &Term,
-    election: &Election,
-) -> Result<Split, AllocError>
-    requires within { IsWithinLimits (tree rule.now) }
-    requires served { all_served (served_by (bench_view ⟦<Box<dyn Counter> as Counter>⟧ bench.old)) (tree rule.now) ≡ true }
-    ensures split { IfOk result (λ split. split ≡ mean (tree rule.now) (all election.now.profile.alternatives) election.now.profile.lines) }
-    ensures ran { OnOk result (bench_view ⟦<Box<dyn Counter> as Counter>⟧ bench.new
-        ≡ after_run (record { term = tree rule.now; votes = election.now.profile }) (bench_view ⟦<Box<dyn Counter> as Counter>⟧ bench.old)) }
-    ensures stays { OnErr result (bench_view ⟦<Box<dyn Counter> as Counter>⟧ bench.new ≡ bench_view ⟦<Box<dyn Counter> as Counter>⟧ bench.old) }
-{
-    let code = compile(alloc, rule)?;
-    let mut machine = Machine::new(alloc, code.depth())?;
-    let domain = AltSet::all(election.alternatives());
-    Ok(machine.run(&code, election, bench, &domain))
 }
 
 // Appends the line of a rule: its text, and what it elects.

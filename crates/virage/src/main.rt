@@ -1,14 +1,15 @@
-//! The program: counts a profile with a voting rule.
+//! The program: counts a profile with a voting rule, and reports which properties the rule has.
 //!
 //! `main` hands the words of the command line, the files of the current folder and the standard
 //! streams to one call, `virage`, on a bench of eight counters that serve every module, and ends with
 //! the status that it answers. The call is generic in where files and texts come from and go to. Its
 //! contract is what users rest on: over files that are told, what it prints is the meaning of the rule
-//! on the profile; the counters of the bench are called as often as that meaning comes to them; each
-//! status comes where its cause is, and where the cause is the status comes. All of it is said by one
-//! function of the words, the files and what the bench serves (`specs/Fate.antt`). The call is two
-//! steps: `answered` does what the words ask for, and `deliver` or `report` tells the outcome to both
-//! streams. It stands on all other crates.
+//! on the profile; what a report tells to hold is true of that meaning, and what it tells to be underived
+//! has no derivation (`specs/Headline.antt`); the counters of the bench are called as often as that
+//! meaning comes to them; each status comes where its cause is, and where the cause is the status comes.
+//! All of it is said by one function of the words, the files and what the bench serves
+//! (`specs/Fate.antt`). The call is two steps: `answered` does what the words ask for, and `deliver` or
+//! `report` tells the outcome to both streams. It stands on all other crates but `vir_check`.
 #![tactic(auto)]
 
 ghost use Rattle.std.specs.Prelude.{◌≡◌, ◌↔◌, ◌⊎◌};
@@ -30,8 +31,11 @@ mod full_bench;
 mod leaf_text;
 mod listing;
 mod profile_file;
-mod result_text;
+mod report;
+#[cfg(test)]
+mod report_tests;
 mod rule_file;
+mod run;
 mod status;
 mod stop;
 #[cfg(test)]

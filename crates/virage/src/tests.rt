@@ -28,13 +28,13 @@ const COUNT: &[&str] = &["count", "rule.vir", "votes.soc"];
 
 const PLURALITY: &[u8] = b"r = plurality;";
 
-const ELECT: &[u8] = b"r = elect;";
+pub(crate) const ELECT: &[u8] = b"r = elect;";
 
-const DIVIDED: &[u8] = b"# NUMBER ALTERNATIVES: 3\n4: 1,2,3\n3: 2,3,1\n2: 3,2,1\n";
+pub(crate) const DIVIDED: &[u8] = b"# NUMBER ALTERNATIVES: 3\n4: 1,2,3\n3: 2,3,1\n2: 3,2,1\n";
 
 const SILENT: &[u8] = b"# NUMBER ALTERNATIVES: 3\n";
 
-const SHORT: &[u8] = b"# NUMBER ALTERNATIVES: 3\n3: 1,2\n3: 2,3,1\n2: 3,2,1\n";
+pub(crate) const SHORT: &[u8] = b"# NUMBER ALTERNATIVES: 3\n3: 1,2\n3: 2,3,1\n2: 3,2,1\n";
 
 const VOTERS: &[u8] =
     b"# NUMBER VOTERS: 10\n# NUMBER ALTERNATIVES: 3\n4: 1,2,3\n3: 2,3,1\n2: 3,2,1\n";
@@ -69,11 +69,11 @@ const ALL_DEFERRED: &[u8] = b"elected:\nrejected:\ndeferred: 1 2 3\n";
 
 const ALL_ELECTED: &[u8] = b"elected: 1 2 3\nrejected:\ndeferred:\n";
 
-const EMPTY: &[u8] = b"text refused: EmptyBook at byte 0\n";
+pub(crate) const EMPTY: &[u8] = b"text refused: EmptyBook at byte 0\n";
 
-const USAGE: &[u8] = b"usage fault\n";
+pub(crate) const USAGE: &[u8] = b"usage fault\n";
 
-const UNREAD: &[u8] = b"read fault\n";
+pub(crate) const UNREAD: &[u8] = b"read fault\n";
 
 const LISTING: &[&str] = &["listing", "rule.vir"];
 
@@ -358,14 +358,18 @@ fn a_run_is_counted_where_it_asks(rt: HostRuntime) -> Result<(), AllocError> {
     Ok(())
 }
 
-fn full_shelf(alloc: Global, rule: &[u8], profile: &[u8]) -> Result<MemoryShelf, AllocError> {
+pub(crate) fn full_shelf(
+    alloc: Global,
+    rule: &[u8],
+    profile: &[u8],
+) -> Result<MemoryShelf, AllocError> {
     let mut shelf = MemoryShelf::new(alloc);
     shelf.put("rule.vir", rule)?;
     shelf.put("votes.soc", profile)?;
     Ok(shelf)
 }
 
-fn owned(alloc: Global, words: &[&str]) -> Result<Vec<String>, AllocError> {
+pub(crate) fn owned(alloc: Global, words: &[&str]) -> Result<Vec<String>, AllocError> {
     let mut owned = Vec::new(alloc);
     for word in words {
         owned.push(word.to_string(alloc)?)?;
@@ -374,7 +378,7 @@ fn owned(alloc: Global, words: &[&str]) -> Result<Vec<String>, AllocError> {
 }
 
 // The status of a call with these words.
-fn status_of(
+pub(crate) fn status_of(
     alloc: Global,
     words: &[&str],
     shelf: &mut MemoryShelf,
@@ -387,7 +391,7 @@ fn status_of(
 
 // A call with these words answers the status, and these bytes are written to sinks that take some at
 // a time.
-fn expect_call(
+pub(crate) fn expect_call(
     rt: &impl Abort,
     alloc: Global,
     words: &[&str],

@@ -6,8 +6,9 @@ ghost use Rattle.virage.specs.declared.stop.Stop.TheVariants.{Usage};
 ghost use Rattle.virage.specs.Answer.{Began, Delivers, DeliversPrefix, IsDenied, IsPrinted, Stopped};
 ghost use Rattle.virage.specs.Command.{AskDenial};
 ghost use Rattle.virage.specs.Delivery.{stop_status};
-ghost use Rattle.virage.specs.Fate.{call_fate, denies, prints, stops};
+ghost use Rattle.virage.specs.Fate.{Wording, call_fate, denies, prints, stops};
 ghost use Rattle.virage.specs.Files.{LacksFirst, StandsAtFirst, StandsAtLast, TakesOfOne, asked_files};
+ghost use Rattle.virage.specs.Headline.{AsksReport, HoldsWhatIsTrue, IsAccepted, Reported, TellsOfEach, UnderivedHasNone};
 ghost use Rattle.virage.specs.Runs.{Run, bench_view, served_by};
 
 use crate::answering::answered;
@@ -48,11 +49,11 @@ pub fn virage<S: Shelf, O: Sink, E: Sink>(
     // Where no count rose, the status is the one that words, files and bench ask for, or memory was wanting.
     ensures stops { (reason : Reason) → call_fate (S.files shelf.old) (served_by (bench_view ⟦<Box<dyn Counter> as Counter>⟧ bench.old)) words.now ≡ stops reason
         → Rose (S.faults shelf.old) (S.faults shelf.new) ⊎ ((result ≡ stop_status reason) ⊎ (result ≡ OUT_OF_MEMORY)) }
-    ensures completes { (runs : List Run) (text : List ℕ)
-        → call_fate (S.files shelf.old) (served_by (bench_view ⟦<Box<dyn Counter> as Counter>⟧ bench.old)) words.now ≡ prints runs text
+    ensures completes { (runs : List Run) (wording : Wording)
+        → call_fate (S.files shelf.old) (served_by (bench_view ⟦<Box<dyn Counter> as Counter>⟧ bench.old)) words.now ≡ prints runs wording
         → (Rose (S.faults shelf.old) (S.faults shelf.new) ⊎ Rose (O.faults out.old) (O.faults out.new))
         ⊎ ((result ≡ PRINTED) ⊎ (result ≡ OUT_OF_MEMORY)) }
-    ensures denies { (text : List ℕ) → call_fate (S.files shelf.old) (served_by (bench_view ⟦<Box<dyn Counter> as Counter>⟧ bench.old)) words.now ≡ denies text
+    ensures denies { (wording : Wording) → call_fate (S.files shelf.old) (served_by (bench_view ⟦<Box<dyn Counter> as Counter>⟧ bench.old)) words.now ≡ denies wording
         → (Rose (S.faults shelf.old) (S.faults shelf.new) ⊎ Rose (O.faults out.old) (O.faults out.new))
         ⊎ ((result ≡ DENIED) ⊎ (result ≡ OUT_OF_MEMORY)) }
     ensures missing_first { LacksFirst (S.files shelf.old) (asked_files words.now) → result ≡ READ_FAULT }
@@ -69,6 +70,17 @@ pub fn virage<S: Shelf, O: Sink, E: Sink>(
         (O.written out.old) (O.written out.new) }
     ensures nothing_printed { result ≢ PRINTED → result ≢ DENIED → result ≢ WRITE_FAULT → out.new ≡ out.old }
     ensures no_line { (result ≡ PRINTED) ⊎ (result ≡ DENIED) → err.new ≡ err.old }
+
+    // The headline: what a report says of the rule and the profile of its files is so, and where these are accepted it is printed.
+    ensures reports_the_meaning { (rule profile : List ℕ) → AsksReport (S.files shelf.old) words.now rule profile → result ≡ PRINTED
+        → Reported (S.files shelf.old) rule profile TellsOfEach (O.written out.old) (O.written out.new) }
+    ensures reported_as_holding_is_true { (rule profile : List ℕ) → AsksReport (S.files shelf.old) words.now rule profile → result ≡ PRINTED
+        → Reported (S.files shelf.old) rule profile HoldsWhatIsTrue (O.written out.old) (O.written out.new) }
+    ensures reported_as_underived_has_none { (rule profile : List ℕ) → AsksReport (S.files shelf.old) words.now rule profile → result ≡ PRINTED
+        → Reported (S.files shelf.old) rule profile UnderivedHasNone (O.written out.old) (O.written out.new) }
+    ensures report_completes { IsAccepted (S.files shelf.old) (served_by (bench_view ⟦<Box<dyn Counter> as Counter>⟧ bench.old)) words.now
+        → (Rose (S.faults shelf.old) (S.faults shelf.new) ⊎ Rose (O.faults out.old) (O.faults out.new))
+        ⊎ ((result ≡ PRINTED) ⊎ (result ≡ OUT_OF_MEMORY)) }
 
     // The bench, where nothing is printed: it stays, and only where memory is wanting it may have made some of the runs.
     ensures began { let old = bench_view ⟦<Box<dyn Counter> as Counter>⟧ bench.old in let new = bench_view ⟦<Box<dyn Counter> as Counter>⟧ bench.new in result ≡ OUT_OF_MEMORY

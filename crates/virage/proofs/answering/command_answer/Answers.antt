@@ -12,6 +12,9 @@ use Rattle.virage.proofs.answering.command_answer.Goals as goal
 pub returns-in-Count-clause-answer : goal.returns-in-Count-clause-answer
 returns-in-Count-clause-answer g c = rw (ap command_seen c.in-Count.is) c.count.ensures.answer
 
+pub returns-in-Report-clause-answer : goal.returns-in-Report-clause-answer
+returns-in-Report-clause-answer g c = rw (ap command_seen c.in-Report.is) c.report.ensures.answer
+
 pub returns-in-Listing-clause-answer : goal.returns-in-Listing-clause-answer
 returns-in-Listing-clause-answer g c =
     let seen = bench_view (record { kinds = (boxed.kinds-value g.dyn-1).it; made = (boxed.made-value g.dyn-1).it }) in

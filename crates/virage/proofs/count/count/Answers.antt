@@ -3,15 +3,21 @@ use Rattle.std.proofs.lemmas.Result.{err_from_is_err_and}
 use Rattle.vir_book.specs.declared.book.TheConstants.{TEXT_LIMIT}
 use Rattle.vir_counter.specs.contracts.boxed.BoxDynCounterCounter.TheImpl as boxed
 use Rattle.vir_outside.specs.Faults.{Rose}
+use Rattle.vir_profile.specs.SocFiles.{File}
 use Rattle.vir_soc.specs.declared.soc_reader.TheConstants.{SIZE_LIMIT}
-use Rattle.vir_term.specs.Tree.{tree}
+use Rattle.vir_term.specs.Tree.{Tree, tree}
 use Rattle.virage.specs.Command.{CanDeny, count}
-use Rattle.virage.specs.Fate.{command_fate, given}
+use Rattle.virage.specs.Fate.{Wording, command_fate, exactly, given}
 use Rattle.virage.specs.Files.{AskedFile}
 use Rattle.virage.specs.Runs.{bench_view, served_by}
-use Rattle.virage.proofs.CountLemmas.{comes_to, counted_answer, counted_leaves}
+use Rattle.virage.specs.Reports.{count_text}
+use Rattle.virage.proofs.RunFateLemmas.{comes_to, run_answer, run_leaves}
 use Rattle.virage.proofs.LeaveLemmas.{leaves_profile, stands_at_read}
 use Rattle.virage.proofs.count.count.Goals as goal
+
+-- how a count is printed
+abbrev wording : Tree → File → Wording
+wording t file = exactly (count_text t file.profile)
 
 pub returns-in_err-file-clause-leaves : goal.returns-in_err-file-clause-leaves
 returns-in_err-file-clause-leaves g c =
@@ -29,9 +35,9 @@ returns-clause-answer g c =
     let asked = count c.args.rule_name.now c.args.profile_name.now in
     record {
       is_answer =
-          counted_answer (command_fate (given (s.files c.args.shelf.now) (served_by old)) asked) (served_by old) (tree c.in_ok-rule.rule) c.in_ok-file.file.profile (CanDeny asked)
+          run_answer (served_by old) (tree c.in_ok-rule.rule) c.in_ok-file.file.profile (wording (tree c.in_ok-rule.rule) c.in_ok-file.file) (command_fate (given (s.files c.args.shelf.now) (served_by old)) asked) (CanDeny asked)
           (Rose (s.faults c.args.shelf.now) (s.faults c.profile_file.new.shelf)) old new c.counted.result
-          (comes_to (s.files c.args.shelf.now) _ (served_by old) c.args.rule_name.now c.args.profile_name.now (tree c.in_ok-rule.rule) c.in_ok-file.file c.in_ok-rule.ensures.reads c.rule_file.ensures.files c.in_ok-file.ensures.reads)
+          (comes_to (s.files c.args.shelf.now) _ (served_by old) c.args.rule_name.now c.args.profile_name.now wording (tree c.in_ok-rule.rule) c.in_ok-file.file c.in_ok-rule.ensures.reads c.rule_file.ensures.files c.in_ok-file.ensures.reads)
           c.counted.ensures;
     }
 
@@ -42,5 +48,5 @@ returns-clause-leaves g c =
     let new = seen c.counted.new.bench in
     let first : AskedFile = record { name = c.args.rule_name.now; limit = TEXT_LIMIT } in
     let last : AskedFile = record { name = c.args.profile_name.now; limit = SIZE_LIMIT } in
-    counted_leaves _ first last _ _ (served_by old) (tree c.in_ok-rule.rule) c.in_ok-file.file.profile old new c.counted.result
+    run_leaves (served_by old) (tree c.in_ok-rule.rule) c.in_ok-file.file.profile (wording (tree c.in_ok-rule.rule) c.in_ok-file.file) _ first last _ _ old new c.counted.result
     (stands_at_read _ _ last _ _ (Ok c.in_ok-file.file) c.in_ok-file.file refl c.rule_file.ensures.files c.in_ok-file.ensures.selected c.profile_file.ensures.taken) c.counted.ensures

@@ -1,0 +1,3 @@
+pub mod SpacedLemmas
+pub mod ChildrenLemmas
+pub mod LineLemmas

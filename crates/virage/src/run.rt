@@ -1,0 +1,54 @@
+// A run of a rule on a profile.
+ghost use Rattle.std.specs.Prelude.{◌≡◌, true, IfOk, OnOk, OnErr};
+ghost use Rattle.vir_altset.specs.Sets.{all};
+ghost use Rattle.vir_machine.specs.Uses.{all_served};
+ghost use Rattle.vir_mean.specs.Meaning.{mean};
+ghost use Rattle.vir_term.specs.Limits.{IsWithinLimits};
+ghost use Rattle.vir_term.specs.Tree.{tree};
+ghost use Rattle.virage.specs.Runs.{after_run, bench_view, served_by};
+
+use std::alloc::{AllocError, Global};
+use vir_compile::compile;
+use vir_counter::Counter;
+use vir_machine::{Bench, Machine};
+use vir_profile::{AltSet, SocFile, Split};
+use vir_tables::Election;
+use vir_term::Term;
+
+/// The split that the rule gives of all alternatives of the election, by a run on the bench.
+pub fn split_of(
+    alloc: Global,
+    bench: &mut Bench,
+    rule: &Term,
+    election: &Election,
+) -> Result<Split, AllocError>
+    requires within { IsWithinLimits (tree rule.now) }
+    requires served { all_served (served_by (bench_view ⟦<Box<dyn Counter> as Counter>⟧ bench.old)) (tree rule.now) ≡ true }
+    ensures split { IfOk result (λ split. split ≡ mean (tree rule.now) (all election.now.profile.alternatives) election.now.profile.lines) }
+    ensures ran { OnOk result (bench_view ⟦<Box<dyn Counter> as Counter>⟧ bench.new
+        ≡ after_run (record { term = tree rule.now; votes = election.now.profile }) (bench_view ⟦<Box<dyn Counter> as Counter>⟧ bench.old)) }
+    ensures stays { OnErr result (bench_view ⟦<Box<dyn Counter> as Counter>⟧ bench.new ≡ bench_view ⟦<Box<dyn Counter> as Counter>⟧ bench.old) }
+{
+    let code = compile(alloc, rule)?;
+    let mut machine = Machine::new(alloc, code.depth())?;
+    let domain = AltSet::all(election.alternatives());
+    Ok(machine.run(&code, election, bench, &domain))
+}
+
+/// The split that the rule gives of all alternatives of the profile, by a run on the bench.
+pub fn split_of_file(
+    alloc: Global,
+    bench: &mut Bench,
+    rule: &Term,
+    file: SocFile,
+) -> Result<Split, AllocError>
+    requires within { IsWithinLimits (tree rule.now) }
+    requires served { all_served (served_by (bench_view ⟦<Box<dyn Counter> as Counter>⟧ bench.old)) (tree rule.now) ≡ true }
+    ensures split { IfOk result (λ split. split ≡ mean (tree rule.now) (all file.profile.alternatives) file.profile.lines) }
+    ensures ran { OnOk result (bench_view ⟦<Box<dyn Counter> as Counter>⟧ bench.new
+        ≡ after_run (record { term = tree rule.now; votes = file.profile }) (bench_view ⟦<Box<dyn Counter> as Counter>⟧ bench.old)) }
+    ensures stays { OnErr result (bench_view ⟦<Box<dyn Counter> as Counter>⟧ bench.new ≡ bench_view ⟦<Box<dyn Counter> as Counter>⟧ bench.old) }
+{
+    let election = Election::of(alloc, file)?;
+    split_of(alloc, bench, rule, &election)
+}
