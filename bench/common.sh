@@ -1,9 +1,10 @@
 # What the measuring scripts share: profiles, the yardstick of bench/plain, and rows that compare. It is sourced, makes a
-# folder of its own, $room, which it removes, and stops where there is no proved build. What isn't here is left out: rustc
-# makes the yardsticks, valgrind counts instructions, and GNU time tells seconds of processor and the peak of memory.
+# folder of its own, $room, which it removes, and stops where there is no proved build, unless VIRAGE is the file of another
+# program to measure. What isn't here is left out: rustc makes the yardsticks, valgrind counts instructions, and GNU time
+# tells seconds of processor and the peak of memory.
 set -u
 top=$(cd "$(dirname "${BASH_SOURCE[0]}")/.." && pwd)
-program=$top/crates/virage/out/virage
+program=${VIRAGE:-$top/crates/virage/out/virage}
 room=$(mktemp -d) || exit 1
 trap 'rm -rf "$room"' EXIT
 
@@ -83,7 +84,7 @@ row() {
   done
 }
 
-if [ ! -x "$program" ] || [ "$("$top/virage" 2>&1)" != "usage fault" ]; then
+if [ -z "${VIRAGE:-}" ] && { [ ! -x "$program" ] || [ "$("$top/virage" 2>&1)" != "usage fault" ]; }; then
   echo "bench: there is no proved build of the sources as they are: run 'rt ci' first" >&2
   exit 1
 fi
