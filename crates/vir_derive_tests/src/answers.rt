@@ -3,9 +3,9 @@ use either::Either;
 use std::alloc::Global;
 use std::process::Abort;
 use vir_book::read_book;
-use vir_derive::{Derivations, are_opposed, derive};
+use vir_derive::{Derivations, Marks, Signature, are_opposed, derive};
 use vir_read::{TextError, read_raw, tokens, type_term};
-use vir_rules::{Derivation, Judgement, Prop, Why};
+use vir_rules::{Derivation, Form, Judgement, Prop, Why};
 use vir_term::Term;
 
 // The term of a text.
@@ -129,6 +129,18 @@ fn terms_with_opposed_heads_are_disjoint(rt: HostRuntime) -> Result<(), TextErro
         return Ok(());
     };
     assert!(rt; why.len() == 0);
+    Ok(())
+}
+
+#[test]
+fn each_part_has_a_signature(rt: HostRuntime) -> Result<(), TextError> {
+    let term = term_of(rt.alloc(), "seq(pass(2),elect)")?;
+    let marks = Marks::of(rt.alloc(), &term)?;
+    let (first, second) = (*marks.first().own(), *marks.second().own());
+    assert!(rt; first.has(Prop::Defers(2)) && !first.has(Prop::Defers(1)));
+    assert!(rt; second.has(Prop::Ea));
+    assert!(rt; marks.own().has(Prop::El) && !marks.own().has(Prop::Ne));
+    assert!(rt; Signature::of_parts(Form::of(&term), first, second, false) == *marks.own());
     Ok(())
 }
 
