@@ -3,7 +3,7 @@
 use crate::meaning::Set;
 use std::cell::OnceCell;
 
-const MOST_ALTERNATIVES: u64 = 128;
+const MOST_ALTERNATIVES: u64 = 1_024;
 const MOST_LINES: usize = 1_000_000;
 const MOST_BYTES: usize = 268_435_456;
 

@@ -7,7 +7,7 @@ use crate::LIMIT;
 use std::marker::Model;
 
 /// The number of words of bits. With 64 bits each they reach to [`LIMIT`].
-const WORDS: usize = 2;
+const WORDS: usize = 16;
 
 /// A set of alternatives, seen as a finite set of numbers. Each member is 1 to [`LIMIT`], as
 /// [`AltSet::bounded`] tells a caller.

@@ -15,7 +15,7 @@ pub use laws::{split_join, split_sizes};
 pub use split::Split;
 
 /// The greatest alternative.
-pub const LIMIT: u16 = 128;
+pub const LIMIT: u16 = 1_024;
 
 #[cfg(test)]
 mod tests;

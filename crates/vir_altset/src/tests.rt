@@ -29,7 +29,7 @@ fn expect_among_all(rt: &impl Abort, x: u16)
     );
 }
 
-const MEMBERS: &[u16] = &[1, 2, 63, 64, 65, 127, 128];
+const MEMBERS: &[u16] = &[1, 2, 63, 64, 65, 127, 128, 129, 960, 961, 1_023, 1_024];
 
 #[test]
 fn one_member_in_either_word(rt: HostRuntime) {
@@ -59,6 +59,7 @@ const FIRST: &[(u16, bool, bool)] = &[
     (64, true, false),
     (65, true, true),
     (128, true, true),
+    (1_024, true, true),
 ];
 
 #[test]
@@ -92,6 +93,7 @@ const NEXT: &[(u16, Option<u16>)] = &[
     (65, Some(128)),
     (127, Some(128)),
     (128, None),
+    (1_024, None),
 ];
 
 #[test]

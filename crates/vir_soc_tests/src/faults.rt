@@ -67,8 +67,8 @@ const CASES: &[(&str, &str, u64)] = &[
     ("# NUMBER ALTERNATIVES: 0", "BadNumber", 1),
     ("# NUMBER ALTERNATIVES: 3x\n", "BadNumber", 1),
     ("# NUMBER VOTERS: -1\n", "BadNumber", 1),
-    ("# NUMBER ALTERNATIVES: 128", "", 0),
-    ("# NUMBER ALTERNATIVES: 129", "TooManyAlternatives", 1),
+    ("# NUMBER ALTERNATIVES: 1024", "", 0),
+    ("# NUMBER ALTERNATIVES: 1025", "TooManyAlternatives", 1),
     (
         "# NUMBER ALTERNATIVES: 3\n# NUMBER ALTERNATIVES: 4\n",
         "CountDiffers",

@@ -2,3 +2,5 @@ pub mod Cells
 pub mod FirstPlaces
 pub mod Lines
 pub mod RankedPairs
+pub mod Places
+pub mod Rows

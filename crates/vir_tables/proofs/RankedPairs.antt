@@ -1,5 +1,5 @@
 -- The pairs that an order ranks, counted from its front.
-use Rattle.std.proofs.Common.{◌≡◌, ◌≢◌, ℕ, zero, suc, ◌+◌, ◌<◌, ◌≤◌, Bool, true, false, cond, ◌&&◌, List, [], ◌∷◌, length, get_or, drop, nat_eq, refl, sym, ap, ap₂, ◌∙◌, arith, add-one, eqb-true}
+use Rattle.std.proofs.Common.{◌≡◌, ◌≢◌, ℕ, zero, suc, ◌+◌, ◌<◌, ◌≤◌, Bool, true, false, cond, List, [], ◌∷◌, length, get_or, drop, nat_eq, refl, sym, ap, ap₂, ◌∙◌, arith, add-one, eqb-true, subst}
 use Rattle.std.proofs.Math.Seq.{drop-cons}
 use Rattle.std.proofs.lemmas.Bool.Decides.{nat_tests}
 use Rattle.std.specs.FinSet as set
@@ -29,13 +29,13 @@ times-occurs x (y ∷ ys) = times-cons x y ys ∙ ap₂ (λ b n. bit b + n) (tur
 pub is_alternative : (m x : ℕ) → set.contains (all m) x ≡ true → IsAlternative m x
 is_alternative m x h = let r = range_of_member m x h in record { low = r.0; high = r.1 }
 
-occurs_once : (m : ℕ) (order : List ℕ) → IsListing (all m) order → (x : ℕ) → occurs x order ≤ 1
+pub occurs_once : (m : ℕ) (order : List ℕ) → IsListing (all m) order → (x : ℕ) → occurs x order ≤ 1
 occurs_once m order lists x = let e = times-occurs x order in let one = listed_once (all m) order lists x in omega arith
 
-occurs_each : (m : ℕ) (order : List ℕ) → IsListing (all m) order → (x : ℕ) → IsAlternative m x → occurs x order ≡ 1
+pub occurs_each : (m : ℕ) (order : List ℕ) → IsListing (all m) order → (x : ℕ) → IsAlternative m x → occurs x order ≡ 1
 occurs_each m order lists x r = sym (times-occurs x order) ∙ lists x ∙ ap bit (member_of_all m x (r.low, r.high))
 
-occurs_at : (order : List ℕ) (i : ℕ) → i < length order → 0 < occurs (get_or order i 0) order
+pub occurs_at : (order : List ℕ) (i : ℕ) → i < length order → 0 < occurs (get_or order i 0) order
 occurs_at [] i h = absurd (omega arith)
 occurs_at (z ∷ order) zero h = let e = ap bit (eq_itself z) in omega arith
 occurs_at (z ∷ order) (suc i) h = let k : 0 < occurs (get_or order i 0) order = occurs_at order i (omega arith) in omega arith
@@ -47,9 +47,6 @@ listed_alternatives m order lists = record {
 }
 
 -- ---- what is added for an order, from a place on
-pub weight_of-drop : (w b j : ℕ) (o : List ℕ) → j < length o → weight_of b w (drop j o) ≡ cond (nat_eq b (get_or o j 0)) w 0 + weight_of b w (drop (j + 1) o)
-weight_of-drop w b j o h = rw (drop-cons o j 0 h, add-one j) refl
-
 -- the weight for each a in the order and each b behind it
 abbrev pub pairs : ℕ → ℕ → ℕ → List ℕ → ℕ
 pairs weight a b [] = 0
@@ -73,7 +70,7 @@ weight_of_one w b (z ∷ o) h = step (nat_eq b z) h (weight_of_none w b o) (weig
     step true h f g = let k = f (omega arith) in omega arith
     step false h f g = let k = g (omega arith) in omega arith
 
-pairs_none : (w a b : ℕ) (o : List ℕ) → occurs a o ≡ 0 → pairs w a b o ≡ 0
+pub pairs_none : (w a b : ℕ) (o : List ℕ) → occurs a o ≡ 0 → pairs w a b o ≡ 0
 pairs_none w a b [] h = refl
 pairs_none w a b (z ∷ o) h = step (nat_eq a z) (occurs a o) h (pairs_none w a b o)
   where
@@ -138,12 +135,50 @@ pairs_ranked m w a b o lists ha hb = elim (nat_eq a b) as (λ c. nat_eq a b ≡ 
       pairs_before w a b o apart (occurs_each m o lists a ha) (occurs_each m o lists b hb) ∙ ap (λ t. cond t w 0) (before_is a b apart o)
 ] refl
 
--- one cell grows by w
-pub after_step : (p q : Bool) (c d w r s : ℕ) → (p ≡ true → q ≡ true → c ≡ d) → s ≡ cond q w 0 + r → cond (p && q) (d + w) c + cond p r 0 ≡ c + cond p s 0
-after_step true true c d w r s h e = let k = h refl refl in omega arith
-after_step true false c d w r s h e = omega arith
-after_step false q c d w r s h e = omega arith
-
 -- what a test of both ends tells
 pub member_of_range : (m x : ℕ) → 1 ≤ x → x ≤ m → set.contains (all m) x ≡ true
 member_of_range m x low high = member_of_all m x (low, high)
+
+-- from where a stands on, the weight is counted for what is behind it
+pub pairs_at : (w a b p : ℕ) (o : List ℕ) → p < length o → get_or o p 0 ≡ a → occurs a o ≤ 1 → pairs w a b o ≡ weight_of b w (drop (suc p) o)
+pairs_at w a b p [] h e one = absurd (omega arith)
+pairs_at w a b zero (z ∷ o) h e one =
+    let t : nat_eq a z ≡ true = ap (λ y. nat_eq a y) e ∙ eq_itself a in
+    let n : occurs a o ≡ 0 = let q = ap bit t in omega arith in
+    let none = pairs_none w a b o n in
+    ap (λ c. cond c (weight_of b w o) 0 + pairs w a b o) t ∙ ap (λ k. weight_of b w o + k) none ∙ plus (weight_of b w o)
+  where
+    plus : (n : ℕ) → n + 0 ≡ n
+    plus n = omega arith
+pairs_at w a b (suc p) (z ∷ o) h e one =
+    let some : 0 < occurs a o = subst (λ y. 0 < occurs y o) e (occurs_at o p (omega arith)) in
+    let f : nat_eq a z ≡ false = not_bit (nat_eq a z) (occurs a o) one some in
+    let few : occurs a o ≤ 1 = omega arith in
+    ap (λ c. cond c (weight_of b w o) 0 + pairs w a b o) f ∙ plus (pairs w a b o) ∙ pairs_at w a b p o (omega arith) e few
+  where
+    plus : (n : ℕ) → 0 + n ≡ n
+    plus n = omega arith
+
+    not_bit : (c : Bool) (n : ℕ) → bit c + n ≤ 1 → 0 < n → c ≡ false
+    not_bit c n h k = grind arith
+
+-- the same, as the order ranks them
+pub rest_ranked : (m w x b p : ℕ) (o : List ℕ) → IsListing (all m) o → IsAlternative m x → IsAlternative m b → p < length o → get_or o p 0 ≡ x → weight_of b w (drop (p + 1) o) ≡ cond (puts_before x b o) w 0
+rest_ranked m w x b p o lists hx hb h e =
+    ap (λ k. weight_of b w (drop k o)) (add-one p) ∙ sym (pairs_at w x b p o h e (occurs_once m o lists x)) ∙ pairs_ranked m w x b o lists hx hb
+
+-- where an alternative stands
+pub record StandsAt (x : ℕ) (o : List ℕ) : Type 0 where
+  pub place : ℕ
+  pub within : place < length o
+  pub here : get_or o place 0 ≡ x
+
+stands_at : (x : ℕ) (o : List ℕ) → 0 < occurs x o → StandsAt x o
+stands_at x [] h = absurd (omega arith)
+stands_at x (z ∷ o) h = elim (nat_eq x z) as (λ c. nat_eq x z ≡ c → 0 < bit c + occurs x o → StandsAt x (z ∷ o)) [
+  | true ↦ λ e k. record { place = 0; within = omega arith; here = sym (eqb-true x z e) }
+  | false ↦ λ e k. let r = stands_at x o (omega arith) in record { place = suc r.place; within = let w = r.within in omega arith; here = r.here }
+] refl h
+
+pub each_stands : (m x : ℕ) (o : List ℕ) → IsListing (all m) o → IsAlternative m x → StandsAt x o
+each_stands m x o lists hx = stands_at x o (let e = occurs_each m o lists x hx in omega arith)

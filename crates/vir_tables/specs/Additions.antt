@@ -1,14 +1,10 @@
 -- What is added to a table of pairs.
-use Rattle.std.specs.Prelude.{ℕ, ◌+◌, ◌^◌, ◌<◌, List, [], ◌∷◌, length, slice_index, nat_eq, if◌then◌else◌}
-use Rattle.vir_tables.specs.Table.{cell, IsAlternative}
+use Rattle.std.specs.Prelude.{ℕ, ◌+◌, ◌<◌, List, [], ◌∷◌, length, slice_index, nat_eq, if◌then◌else◌}
+use Rattle.vir_tables.specs.Table.{IsAlternative}
 
 -- Each number of the order is one of the alternatives from 1 to m.
 pub record AreAlternatives (m : ℕ) (order : List ℕ) : Type 0 where
   pub each : (i : ℕ) → i < length order → IsAlternative m (slice_index order i)
-
--- The number of each pair can grow by what f gives.
-pub record HasRoom (m : ℕ) (table : List ℕ) (f : ℕ → ℕ → ℕ) : Type 0 where
-  pub at : (x y : ℕ) → IsAlternative m x → IsAlternative m y → cell table m x y + f x y < 2 ^ 64
 
 -- the weight, once for each place where y stands
 abbrev pub weight_of : ℕ → ℕ → List ℕ → ℕ

@@ -1,4 +1,5 @@
 pub mod Additions
 pub mod Marks
+pub mod Places
 pub mod Table
 pub use Rattle.vir_profile.specs.SocFiles

@@ -8,22 +8,24 @@ ghost use Rattle.vir_profile.specs.Profiles.{IsProfile, first_weight, pairwise_w
 ghost use Rattle.vir_profile.specs.SocFiles.{name_of};
 
 use crate::first_places::{first_weight_of, first_weights_of};
+use crate::pairs::pairwise_weight_of;
 use crate::table::{fill, index};
 use std::alloc::{AllocError, Global};
 use std::marker::Model;
 use vir_mean::Tally;
 use vir_profile::{AltSet, SocFile};
 
-/// A profile to be counted, with the names of its alternatives and a number for each ordered pair of
-/// them. Restriction to a set keeps the number of each pair of its members, so one table serves all
-/// sets.
+/// A profile to be counted, with the names of its alternatives. It may have a table with a number for
+/// each ordered pair of them. Restriction to a set keeps the number of each pair of its members, so
+/// one table serves all sets. Without one, each question about a pair goes over the lines.
 #[derive(Drop)]
 pub struct Election {
     file: SocFile,
-    table: Vec<u64>,
+    table: Option<Vec<u64>>,
 }
 
 impl Model for Election {
+    ghost use Rattle.std.specs.Prelude.{IfSome};
     ghost use Rattle.vir_profile.specs.SocFiles.{File};
     ghost use Rattle.vir_tables.specs.Table.{IsTable};
 
@@ -31,20 +33,31 @@ impl Model for Election {
 
     ghost view = { λ a. a.file };
 
-    ghost invariant = { λ a. IsTable a.file.profile.alternatives a.table.items a.file.profile.lines };
+    ghost invariant = { λ a. IfSome a.table (λ table. IsTable a.file.profile.alternatives table.items a.file.profile.lines) };
 }
 
 impl Election {
-    /// The election of this file. It takes memory for the table, 8 bytes a pair, and drops the file
-    /// where that is wanting.
+    /// The election of this file, with a table. It takes memory for the table, 8 bytes a pair, and drops
+    /// the file where that is wanting.
     pub fn of(alloc: Global, file: SocFile) -> Result<Election, AllocError>
         ensures { IfOk result (λ election. election ≡ file) }
     {
         let profile = file.profile();
         let m = profile.alternatives();
         let mut table = vec![in alloc; 0u64; usize::from(m) * usize::from(m)]?;
-        fill(&mut table, m, profile.entries());
-        Ok(Election { file, table })
+        fill(alloc, &mut table, m, profile.entries())?;
+        Ok(Election {
+            file,
+            table: Some(table),
+        })
+    }
+
+    /// The election of this file without a table: for rules that don't ask about pairs. It takes no
+    /// memory.
+    pub fn without_table(file: SocFile) -> Election
+        ensures { result ≡ file }
+    {
+        Election { file, table: None }
     }
 
     /// The number of alternatives, which are the numbers from 1 to it.
@@ -69,13 +82,17 @@ impl Election {
         self.file.name(x)
     }
 
-    /// How many voters put x before y.
+    /// How many voters put x before y. It goes over the lines where there is no table.
     pub fn prefers(&self, x: u16, y: u16) -> u64
         requires first { set.contains (all self.now.profile.alternatives) x ≡ true }
         requires second { set.contains (all self.now.profile.alternatives) y ≡ true }
         ensures { result ≡ pairwise_weight self.now.profile.lines x y }
     {
-        self.table[index(self.file.profile().alternatives(), x, y)]
+        let profile = self.file.profile();
+        match &self.table {
+            Some(table) => table[index(profile.alternatives(), x, y)],
+            None => pairwise_weight_of(profile.entries(), x, y),
+        }
     }
 
     /// Whether more voters put x before y than y before x.

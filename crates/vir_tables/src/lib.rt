@@ -1,15 +1,20 @@
-//! Elections: a profile to be counted, with a number for each ordered pair of its alternatives.
+//! Elections: a profile to be counted, with a number for each ordered pair of its alternatives where a
+//! rule asks about pairs.
 //!
-//! The contract of this layer: an `Election` is its file, a profile with names, and its table holds for
-//! each pair how many voters put the first before the second, so that a pair is asked about by one look
-//! into the table. It is a `Tally` of its profile, restricted to any set of its alternatives. The table
-//! is one allocation, filled in one pass over the lines by `Election::of`; nothing else takes memory.
-//! First places among the members of a set stand in no table: they are added up line by line. It stands
-//! on `vir_profile`, whose lines it goes over, and on `vir_mean`, whose `Tally` it implements.
+//! The contract of this layer: an `Election` is its file, a profile with names. Its table, where it has
+//! one, holds for each pair how many voters put the first before the second, so that a pair is asked
+//! about by one look into the table; without a table the same is told by going over the lines. It is a
+//! `Tally` of its profile, restricted to any set of its alternatives. The table is one allocation,
+//! filled by `Election::of`: a small one line by line, and a large one in blocks of lines, one row after
+//! another, for which the places of all alternatives in the lines of a block are noted in a second
+//! allocation. Nothing else takes memory. First places among the members of a set stand in no table:
+//! they are added up line by line. It stands on `vir_profile`, whose lines it goes over, and on
+//! `vir_mean`, whose `Tally` it implements.
 #![tactic(auto)]
 
 mod election;
 mod first_places;
+mod pairs;
 mod table;
 #[cfg(test)]
 mod tests;

@@ -22,7 +22,23 @@ fn add(
     Ok(())
 }
 
-// The election of these lines.
+// The file of these lines, without names.
+fn file_of(
+    rt: &impl Abort,
+    alloc: Global,
+    m: u16,
+    lines: &[(u64, &[u16])],
+) -> Result<SocFile, AllocError>
+    requires { (1 ≤ m) × (m ≤ LIMIT) }
+{
+    let mut profile = Profile::new(alloc, m);
+    for (weight, order) in lines {
+        add(rt, alloc, &mut profile, *weight, order)?;
+    }
+    Ok(SocFile::of(profile, Vec::new(alloc)))
+}
+
+// The election of these lines, with a table.
 fn election_of(
     rt: &impl Abort,
     alloc: Global,
@@ -31,11 +47,7 @@ fn election_of(
 ) -> Result<Election, AllocError>
     requires { (1 ≤ m) × (m ≤ LIMIT) }
 {
-    let mut profile = Profile::new(alloc, m);
-    for (weight, order) in lines {
-        add(rt, alloc, &mut profile, *weight, order)?;
-    }
-    Election::of(alloc, SocFile::of(profile, Vec::new(alloc)))
+    Election::of(alloc, file_of(rt, alloc, m, lines)?)
 }
 
 // As many voters put x before y.
@@ -81,6 +93,45 @@ fn pairs_of_three_alternatives(rt: HostRuntime) -> Result<(), AllocError> {
     for (x, y, weight, beats) in PAIRS {
         expect_pair(&rt, &election, *x, *y, *weight, *beats);
     }
+    Ok(())
+}
+
+#[test]
+fn pairs_without_a_table(rt: HostRuntime) -> Result<(), AllocError> {
+    let election = Election::without_table(file_of(&rt, rt.alloc(), 3, LINES)?);
+    assert!(rt; election.voters() == 9);
+    for (x, y, weight, beats) in PAIRS {
+        expect_pair(&rt, &election, *x, *y, *weight, *beats);
+    }
+    Ok(())
+}
+
+// Alternatives, the given one first and the others in ascending order behind it.
+fn led_by(alloc: Global, m: u16, first: u16) -> Result<Vec<u16>, AllocError> {
+    let mut order = Vec::new(alloc);
+    order.push(first)?;
+    for x in 1..=m {
+        if x != first {
+            order.push(x)?;
+        }
+    }
+    Ok(order)
+}
+
+#[test]
+fn pairs_of_many_alternatives(rt: HostRuntime) -> Result<(), AllocError> {
+    let first = led_by(rt.alloc(), 400, 400)?;
+    let second = led_by(rt.alloc(), 400, 200)?;
+    let lines = [(5, first.as_slice()), (2, second.as_slice())];
+    let election = election_of(&rt, rt.alloc(), 400, &lines)?;
+    expect_pair(&rt, &election, 400, 1, 5, true);
+    expect_pair(&rt, &election, 1, 400, 2, false);
+    expect_pair(&rt, &election, 200, 199, 2, false);
+    expect_pair(&rt, &election, 199, 200, 5, true);
+    expect_pair(&rt, &election, 1, 399, 7, true);
+    expect_pair(&rt, &election, 399, 1, 0, false);
+    expect_pair(&rt, &election, 82, 83, 7, true);
+    expect_pair(&rt, &election, 83, 82, 0, false);
     Ok(())
 }
 

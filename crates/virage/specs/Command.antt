@@ -5,9 +5,8 @@ use Rattle.std.specs.declared.option.Option.{Option}
 use Rattle.std.specs.declared.string.String.{String}
 use Rattle.virage.specs.declared.command.Command.{Command as Borrowed}
 use Rattle.virage.specs.declared.command.Command.TheVariants.{Count, Drill, Listing, Report}
-use Rattle.virage.specs.declared.drill_profile.TheConstants.{DRILL_LINES_LIMIT, DRILL_SEED_LIMIT}
+use Rattle.virage.specs.declared.drill_profile.TheConstants.{DRILL_ALTERNATIVES_LIMIT, DRILL_LINES_LIMIT, DRILL_SEED_LIMIT}
 use Rattle.virage.specs.WordNumbers.{number_within}
-use Rattle.vir_altset.specs.Sets.{limit}
 
 -- a command
 pub data Command : Type 0 where
@@ -30,7 +29,7 @@ drill_of None lines alternatives = None
 -- drill with the numbers that these words are, where each is one of its range
 abbrev pub drill_words : List ℕ → List ℕ → List ℕ → Option Command
 drill_words seed lines alternatives =
-    drill_of (number_within 0 DRILL_SEED_LIMIT seed) (number_within 1 DRILL_LINES_LIMIT lines) (number_within 1 limit alternatives)
+    drill_of (number_within 0 DRILL_SEED_LIMIT seed) (number_within 1 DRILL_LINES_LIMIT lines) (number_within 1 DRILL_ALTERNATIVES_LIMIT alternatives)
 
 -- the command of this name on a rule file and a profile, where there is one
 abbrev pub two_file_words : List ℕ → List ℕ → List ℕ → Option Command
@@ -58,7 +57,7 @@ abbrev pub IsInRange : Command → Type 0
 IsInRange (count rule profile) = Unit {0}
 IsInRange (report rule profile) = Unit {0}
 IsInRange (listing rule) = Unit {0}
-IsInRange (drill seed lines alternatives) = (lines ≤ DRILL_LINES_LIMIT) × (1 ≤ alternatives) × (alternatives ≤ limit)
+IsInRange (drill seed lines alternatives) = (lines ≤ DRILL_LINES_LIMIT) × (1 ≤ alternatives) × (alternatives ≤ DRILL_ALTERNATIVES_LIMIT)
 
 -- The commands that can have a negative answer.
 abbrev pub CanDeny : Command → Type 0

@@ -11,6 +11,7 @@ pub mod Feeding
 pub mod Drill
 pub mod DrillResults
 pub mod WordNumbers
+pub mod Pairs
 pub use Rattle.vir_outside.specs.Faults
 pub use Rattle.vir_outside.specs.Shelf
 pub use Rattle.vir_outside.specs.Sink

@@ -3,9 +3,8 @@ ghost use Rattle.std.specs.Prelude.{◌≡◌, IfSome, map, string_bytes};
 ghost use Rattle.std.specs.Option.{option_map};
 ghost use Rattle.virage.specs.Command.{IsInRange, command_of, command_seen, drill_words, two_file_words};
 
-use crate::drill_profile::{DRILL_LINES_LIMIT, DRILL_SEED_LIMIT};
+use crate::drill_profile::{DRILL_ALTERNATIVES_LIMIT, DRILL_LINES_LIMIT, DRILL_SEED_LIMIT};
 use crate::word_number::word_number;
-use vir_profile::LIMIT;
 
 /// What the words ask for. Names of files are borrowed from the words.
 #[derive(Clone, Copy)]
@@ -39,7 +38,7 @@ fn read_drill<'a>(seed: &str, lines: &str, alternatives: &str) -> Option<Command
 {
     let seed = word_number(seed, 0, DRILL_SEED_LIMIT)?;
     let lines = word_number(lines, 1, u64::from(DRILL_LINES_LIMIT))?;
-    let alternatives = word_number(alternatives, 1, u64::from(LIMIT))?;
+    let alternatives = word_number(alternatives, 1, u64::from(DRILL_ALTERNATIVES_LIMIT))?;
     Some(Command::Drill {
         seed,
         lines: lines as u32,

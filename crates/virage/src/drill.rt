@@ -11,7 +11,7 @@ ghost use Rattle.vir_report.specs.ResultText.{set_line};
 ghost use Rattle.virage.specs.Runs.{after_runs, bench_view, served_by};
 
 use crate::answer::Answer;
-use crate::drill_profile::{DRILL_LINES_LIMIT, drill_profile};
+use crate::drill_profile::{DRILL_ALTERNATIVES_LIMIT, DRILL_LINES_LIMIT, drill_profile};
 use crate::drill_terms::drill_terms;
 use crate::leaf_text::LeafText;
 use crate::run::split_of;
@@ -20,7 +20,7 @@ use itoa::Buffer;
 use std::alloc::{AllocError, Global};
 use vir_counter::Counter;
 use vir_machine::Bench;
-use vir_profile::{LIMIT, Profile, SocFile, Split};
+use vir_profile::{Profile, SocFile, Split};
 use vir_report::push_set;
 use vir_tables::Election;
 use vir_term::{Leaf, Term};
@@ -129,7 +129,7 @@ pub fn drill(
     alternatives: u16,
 ) -> Result<Answer, Stop>
     requires some { 1 ≤ alternatives }
-    requires few { alternatives ≤ LIMIT }
+    requires few { alternatives ≤ DRILL_ALTERNATIVES_LIMIT }
     requires lines { lines ≤ DRILL_LINES_LIMIT }
     ensures { let old = bench_view ⟦<Box<dyn Counter> as Counter>⟧ bench.old in
         IsAnswer (drill_fate (served_by old) (drill_votes seed lines alternatives)) ⊥ ⊥ old (bench_view ⟦<Box<dyn Counter> as Counter>⟧ bench.new) result }

@@ -4,13 +4,16 @@ ghost use Rattle.vir_profile.specs.Add.{add_fault};
 ghost use Rattle.virage.specs.Drill.{next_state, draw_of, drawn_from, drill_votes};
 
 use std::alloc::{AllocError, Global};
-use vir_profile::{AddFault, Ballot, Entry, LIMIT, Profile};
+use vir_profile::{AddFault, Ballot, Entry, Profile};
 
 /// The greatest seed of a generated profile.
 pub const DRILL_SEED_LIMIT: u64 = 18_446_744_073_709_551_615;
 
 /// The most lines that a generated profile has.
 pub const DRILL_LINES_LIMIT: u32 = 100_000;
+
+/// The greatest number of alternatives of a generated profile.
+pub const DRILL_ALTERNATIVES_LIMIT: u16 = 128;
 
 // What takes a state to the one after it.
 const FACTOR: u64 = 6364136223846793005;
@@ -37,7 +40,7 @@ impl Draws {
 // The next order of so many alternatives.
 fn drawn_order(alloc: Global, draws: &mut Draws, alternatives: u16) -> Result<Vec<u16>, AllocError>
     requires some { 1 ≤ alternatives }
-    requires few { alternatives ≤ LIMIT }
+    requires few { alternatives ≤ DRILL_ALTERNATIVES_LIMIT }
     ensures order { IfOk result (λ order. order.items ≡ (drawn_from draws.old.state alternatives).order) }
     ensures state { OnOk result (draws.new.state ≡ (drawn_from draws.old.state alternatives).state) }
 {
@@ -73,7 +76,7 @@ pub fn drill_profile(
     alternatives: u16,
 ) -> Result<Profile, AllocError>
     requires some { 1 ≤ alternatives }
-    requires few { alternatives ≤ LIMIT }
+    requires few { alternatives ≤ DRILL_ALTERNATIVES_LIMIT }
     requires lines { lines ≤ DRILL_LINES_LIMIT }
     ensures { IfOk result (λ profile. profile ≡ drill_votes seed lines alternatives) }
 {

@@ -30,6 +30,7 @@ mod file_stop;
 mod full_bench;
 mod leaf_text;
 mod listing;
+mod pairs;
 mod profile_file;
 mod report;
 #[cfg(test)]

@@ -7,6 +7,7 @@ ghost use Rattle.vir_term.specs.Limits.{IsWithinLimits};
 ghost use Rattle.vir_term.specs.Tree.{tree};
 ghost use Rattle.virage.specs.Runs.{after_run, bench_view, served_by};
 
+use crate::pairs::asks_about_pairs;
 use std::alloc::{AllocError, Global};
 use vir_compile::compile;
 use vir_counter::Counter;
@@ -35,6 +36,17 @@ pub fn split_of(
     Ok(machine.run(&code, election, bench, &domain))
 }
 
+// The election of a file, with a table of pairs where the rule asks about them.
+fn election_for(alloc: Global, rule: &Term, file: SocFile) -> Result<Election, AllocError>
+    ensures { IfOk result (λ election. election ≡ file) }
+{
+    if asks_about_pairs(rule) {
+        Election::of(alloc, file)
+    } else {
+        Ok(Election::without_table(file))
+    }
+}
+
 /// The split that the rule gives of all alternatives of the profile, by a run on the bench.
 pub fn split_of_file(
     alloc: Global,
@@ -49,6 +61,6 @@ pub fn split_of_file(
         ≡ after_run (record { term = tree rule.now; votes = file.profile }) (bench_view ⟦<Box<dyn Counter> as Counter>⟧ bench.old)) }
     ensures stays { OnErr result (bench_view ⟦<Box<dyn Counter> as Counter>⟧ bench.new ≡ bench_view ⟦<Box<dyn Counter> as Counter>⟧ bench.old) }
 {
-    let election = Election::of(alloc, file)?;
+    let election = election_for(alloc, rule, file)?;
     split_of(alloc, bench, rule, &election)
 }

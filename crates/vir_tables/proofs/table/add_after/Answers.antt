@@ -1,50 +1,30 @@
-use Rattle.std.proofs.Common.{◌≡◌, ◌+◌, ◌*◌, ◌∙◌, sym, ap, cond, nat_eq, arith, eqb-true, ap₂, drop, get_or, length}
+use Rattle.std.proofs.Common.{◌≡◌, ◌+◌, ◌-◌, ◌*◌, ◌∙◌, ℕ, Bool, true, cond, drop, get_or, length, nat_eq, List, subst, sym, ap, ap₂, arith, eqb-true}
 use Rattle.vir_tables.specs.Additions.{weight_of}
-use Rattle.vir_tables.specs.Table.{cell, index, IsAlternative}
-use Rattle.vir_tables.proofs.Cells.{cell-put, eq_itself, index_lt, place_in_row}
-use Rattle.vir_tables.proofs.RankedPairs.{after_step, weight_of-drop}
+use Rattle.vir_tables.specs.Table.{cell, Holds, IsAlternative}
+use Rattle.vir_tables.proofs.Rows.{cell_after, cell_in_row, row_length}
+use borrow.Rule.Slice.PartMut.{put_mid, mid_of}
 use Rattle.vir_tables.proofs.table.add_after.Goals as goal
 
-pub loop-j-preserved : goal.loop-j-preserved
-loop-j-preserved c a b ha hb =
-    let t = c.loop-j.table in
+-- a cell of the row grows, and another stays
+step : (p : Bool) (now row old w : ℕ) → (p ≡ true → row ≡ old + w) → now ≡ cond p row old → now ≡ old + cond p w 0
+step p now row old w grown e = grind arith
+
+added : (t row : List ℕ) (m x s k w : ℕ) (rest : List ℕ) → s ≡ (x - 1) * m → k ≡ m → length t ≡ m * m → length row ≡ m → IsAlternative m x
+    → ((b : ℕ) → IsAlternative m b → get_or row (b - 1) 0 ≡ get_or (mid_of s k t) (b - 1) 0 + weight_of b w rest)
+    → Holds m (put_mid s k t row) (λ a b. cell t m a b + cond (nat_eq a x) (weight_of b w rest) 0)
+added t row m x s k w rest start rows size long hx grown = record {
+  at = λ a b ha hb.
+      step (nat_eq a x) _ (get_or row (b - 1) 0) (cell t m a b) (weight_of b w rest)
+      (λ e. grown b hb ∙ ap₂ (λ i j. get_or (mid_of i j t) (b - 1) 0 + weight_of b w rest) start rows ∙ ap (λ n. n + weight_of b w rest) (cell_in_row t m x b size hx hb ∙ ap (λ z. cell t m z b) (sym (eqb-true a x e))))
+      (ap₂ (λ i j. cell (put_mid i j t row) m a b) start rows ∙ cell_after t row m a b x size long ha hb hx);
+}
+
+pub returns-clause-added : goal.returns-clause-added
+returns-clause-added c =
     let m = c.args.m in
-    let x = c.args.x in
-    let y = c.from-y.result in
-    let w = c.args.weight in
-    let o = c.args.order.now in
-    let j = c.loop-j.j in
-    let y_in : IsAlternative m y = rw c.from-y.ensures (c.requires.listed.each j (omega arith)) in
-    let size : length t ≡ m * m = omega arith in
-    let rest : weight_of b w (drop j o) ≡ cond (nat_eq b y) w 0 + weight_of b w (drop (j + 1) o) = weight_of-drop w b j o (omega arith) ∙ ap (λ v. cond (nat_eq b v) w 0 + weight_of b w (drop (j + 1) o)) (sym c.from-y.ensures) in
-    rw (place_in_row m x y _ _ c.from.ensures c.from-2.ensures y_in.low, cell-put t m a b x y (get_or t (index m x y) 0 + w) size ha hb c.requires.row y_in)
-    (after_step (nat_eq a x) (nat_eq b y) (cell t m a b) (cell t m x y) w (weight_of b w (drop (j + 1) o)) (weight_of b w (drop j o)) (λ p q. ap₂ (λ u v. cell t m u v) (eqb-true a x p) (eqb-true b y q)) rest
-    ∙ c.loop-j.invariant a b ha hb)
-
-pub bounds-table-row-in-loop-j : goal.bounds-table-row-in-loop-j
-bounds-table-row-in-loop-j c =
-    let y_in : IsAlternative c.args.m c.from-y.result = rw c.from-y.ensures (c.requires.listed.each c.loop-j.j (omega arith)) in
-    rw (place_in_row c.args.m c.args.x c.from-y.result _ _ c.from.ensures c.from-2.ensures y_in.low) (let k = index_lt c.args.m c.args.x c.from-y.result c.requires.row y_in in omega arith)
-
-pub overflow_add-table : goal.overflow_add-table
-overflow_add-table c =
-    let y_in : IsAlternative c.args.m c.from-y.result = rw c.from-y.ensures (c.requires.listed.each c.loop-j.j (omega arith)) in
-    let place = place_in_row c.args.m c.args.x c.from-y.result _ _ c.from.ensures c.from-2.ensures y_in.low in
-    let inside = index_lt c.args.m c.args.x c.from-y.result c.requires.row y_in in
-    let low = y_in.low in
-    omega arith
-
-pub overflow_add-table-in-loop-j : goal.overflow_add-table-in-loop-j
-overflow_add-table-in-loop-j c =
-    let x = c.args.x in
-    let y = c.from-y.result in
-    let w = c.args.weight in
-    let o = c.args.order.now in
-    let j = c.loop-j.j in
-    let y_in : IsAlternative c.args.m y = rw c.from-y.ensures (c.requires.listed.each j (omega arith)) in
-    let rest = weight_of-drop w y j o (omega arith) in
-    let here : cond (nat_eq y (get_or o j 0)) w 0 ≡ w = ap (λ z. cond (nat_eq y z) w 0) (sym c.from-y.ensures) ∙ ap (λ b. cond b w 0) (eq_itself y) in
-    let row_now = ap (λ b. cond b (weight_of y w (drop j o)) 0) (eq_itself x) in
-    let row_then = ap (λ b. cond b (weight_of y w (drop c.args.from o)) 0) (eq_itself x) in
-    rw (place_in_row c.args.m x y _ _ c.from.ensures c.from-2.ensures y_in.low)
-    (omega (arith, c.requires.room.at x y c.requires.row y_in, c.loop-j.invariant x y c.requires.row y_in, rest, here, row_now, row_then))
+    let t = c.args.table.now in
+    let start : c.from.result * c.from-2.result ≡ (c.args.x - 1) * m = ap₂ (λ i j. i * j) c.from.ensures c.from-2.ensures in
+    let rows : c.from.result * c.from-2.result + c.from-3.result - c.from.result * c.from-2.result ≡ m = omega arith in
+    let long = row_length t m c.args.x _ _ start rows c.requires.size c.requires.row in
+    added t c.add_in_row.new.row m c.args.x _ _ c.args.weight (drop c.args.from c.args.order.now) start rows c.requires.size (c.add_in_row.auto.row ∙ long) c.requires.row
+    (λ b hb. c.add_in_row.ensures.added b (subst (λ n. IsAlternative n b) (sym long) hb))

@@ -4,7 +4,7 @@ use Rattle.vir_profile.specs.OrderFaults.{order_fault}
 use Rattle.vir_profile.specs.Orders.{puts_before}
 use Rattle.vir_profile.proofs.OrderLaws.{listing_of_accepted}
 use Rattle.vir_tables.proofs.Lines.{nothing_left, weight_where-drop, weight_where_le_total}
-use Rattle.vir_tables.proofs.table.fill.Goals as goal
+use Rattle.vir_tables.proofs.table.fill_by_lines.Goals as goal
 
 pub loop-line-init : goal.loop-line-init
 loop-line-init c a b ha hb = let z = c.requires.zeros.at a b ha hb in omega arith
@@ -15,15 +15,13 @@ add_line-requires-clause-complete c =
     (listing_of_accepted c.args.m c.line-item.result.order (ap (λ (e : Entry). order_fault c.args.m e.order) c.line-item.is ∙ c.requires.known.orders c.loop-line.line-index c.line-item.result (omega arith)))
 
 pub add_line-requires-clause-room : goal.add_line-requires-clause-room
-add_line-requires-clause-room c = record {
-  at = λ a b ha hb.
-      let lines = c.args.lines.now in
-      let before = c.loop-line.invariant a b ha hb in
-      let rest = weight_where-drop (puts_before a b) lines c.loop-line.line-index c.line-item.result (omega arith) c.line-item.is in
-      let most = weight_where_le_total (puts_before a b) lines in
-      let total = c.requires.known.weights in
-      rw c.alternatives.ensures (omega arith);
-}
+add_line-requires-clause-room c a b ha hb =
+    let lines = c.args.lines.now in
+    let before = c.loop-line.invariant a b ha hb in
+    let rest = weight_where-drop (puts_before a b) lines c.loop-line.line-index c.line-item.result (omega arith) c.line-item.is in
+    let most = weight_where_le_total (puts_before a b) lines in
+    let total = c.requires.known.weights in
+    rw c.alternatives.ensures (omega arith)
 
 pub loop-line-preserved : goal.loop-line-preserved
 loop-line-preserved c a b ha hb =

@@ -1,7 +1,7 @@
 use Rattle.std.proofs.Common.{◌≡◌, ◌+◌, drop, ℕ}
 use Rattle.vir_profile.specs.Profiles.{pairwise_weight}
 use Rattle.vir_tables.specs.Table.{cell, IsAlternative}
-use Rattle.vir_tables.proofs.table.fill.Given as goal
+use Rattle.vir_tables.proofs.table.fill_by_lines.Given as goal
 
 abbrev pub invariant-loop-line : goal.invariant-loop-line
 invariant-loop-line l = (a b : ℕ) → IsAlternative l.m a → IsAlternative l.m b
