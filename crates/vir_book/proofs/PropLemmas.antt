@@ -7,7 +7,7 @@ use Rattle.std.proofs.Math.Logic.{∥∥₁_elim}
 use Rattle.vir_term.specs.declared.leaf.Leaf.{Leaf}
 use Rattle.vir_term.specs.declared.leaf.Leaf.TheVariants.{Elect, Defer, PassFirst, DropFirst, Plurality, Max, Min, Below, Upto}
 use Rattle.vir_term.specs.Orders.{order_fault}
-use Rattle.vir_term.specs.Tree.{Tree, leaf, rev, seq, par, loop}
+use Rattle.vir_term.specs.Tree.{Tree, leaf, rev, seq, par, loop, number_of}
 use Rattle.vir_term.specs.Limits.{IsCount, IsOfFirst, IsLeafInRange, IsInRange, IsWithinLimits}
 use Rattle.vir_book.specs.Books.{Entry, AllWithinLimits}
 use Rattle.vir_book.proofs.BookLemmas.{last-within}
@@ -53,7 +53,7 @@ IsInRange-prop (leaf l) = IsLeafInRange-prop l
 IsInRange-prop (rev part) = IsInRange-prop part
 IsInRange-prop (seq first second) = ×_prop (IsInRange-prop first) (IsInRange-prop second)
 IsInRange-prop (par first second) = ×_prop (IsInRange-prop first) (IsInRange-prop second)
-IsInRange-prop (loop k body) = ×_prop (IsCount-prop k) (IsInRange-prop body)
+IsInRange-prop (loop k body) = ×_prop (IsCount-prop (number_of k)) (IsInRange-prop body)
 
 IsWithinLimits-prop : (t : Tree) → IsProp (IsWithinLimits t)
 IsWithinLimits-prop t a b = λ i. record { small = le_prop a.small b.small i; flat = le_prop a.flat b.flat i; in_range = IsInRange-prop t a.in_range b.in_range i }

@@ -1,12 +1,12 @@
 -- The depth of a term's code is the term's.
 use Rattle.std.proofs.Common.{◌≡◌, ℕ, ◌+◌, ◌≤◌, max, List, [], ◌∷◌, ◌++◌, refl, sym, ap, ◌∙◌, arith, append_assoc}
 use Rattle.std.proofs.lemmas.List.{append-nil}
-use Rattle.vir_term.specs.Tree.{Tree, leaf, rev, seq, par, loop}
+use Rattle.vir_term.specs.Tree.{Tree, leaf, rev, seq, par, loop, End, exactly, at_most}
 use Rattle.vir_code.specs.declared.instr.Instr.{Instr}
 use Rattle.vir_code.specs.declared.instr.Instr.TheVariants.{KeepDomain, FetchDomain, JoinSeq, JoinMax, Revise, LoopBack, EndLoop}
-use Rattle.vir_code.specs.Code.{width, code_at, code_of}
+use Rattle.vir_code.specs.Code.{test_of, width, code_at, code_of}
 use Rattle.vir_code.specs.Depth.{depth_of}
-use Rattle.vir_code.specs.Heights.{peak_from, peak_of}
+use Rattle.vir_code.specs.Heights.{height_after, peak_from, peak_of}
 
 -- each term needs a place for its split
 pub depth_positive : (t : Tree) → 1 ≤ depth_of t
@@ -18,6 +18,11 @@ depth_positive (loop k m) = omega arith
 
 same_peak : (h k x y : ℕ) (is : List Instr) → h ≡ k → x ≡ y → peak_from h x is ≡ peak_from k y is
 same_peak h k x y is e f = ap (λ n. peak_from n x is) e ∙ ap (λ n. peak_from k n is) f
+
+-- a test leaves the stack as it is
+height-test_of : (k : End) (exit height : ℕ) → height_after (test_of k exit) height ≡ height
+height-test_of (exactly k) exit height = refl
+height-test_of (at_most k) exit height = refl
 
 -- a term's code adds its split, and rises to its depth
 pub peak-code_at : (p : ℕ) (t : Tree) (rest : List Instr) (height most : ℕ) → peak_from height most (code_at p t ++ rest) ≡ peak_from (height + 1) (max most (height + depth_of t)) rest
@@ -50,7 +55,8 @@ peak-code_at p (par m n) rest height most =
 peak-code_at p (loop k m) rest height most =
     let some = depth_positive m in
     let b = code_at (p + 2) m in
-    ap (peak_from (height + 1) (max (max most (height + 1)) (height + 1))) (append_assoc b (LoopBack (p + 1) ∷ (EndLoop ∷ [])) rest)
+    ap (λ h. peak_from h (max (max most (height + 1)) h) ((b ++ LoopBack (p + 1) ∷ (EndLoop ∷ [])) ++ rest)) (height-test_of k (p + 2 + width m + 1) (height + 1))
+    ∙ ap (peak_from (height + 1) (max (max most (height + 1)) (height + 1))) (append_assoc b (LoopBack (p + 1) ∷ (EndLoop ∷ [])) rest)
     ∙ peak-code_at (p + 2) m (LoopBack (p + 1) ∷ (EndLoop ∷ rest)) (height + 1) (max (max most (height + 1)) (height + 1))
     ∙ same_peak _ _ _ _ rest (omega arith) (omega arith)
 

@@ -3,13 +3,14 @@ use Rattle.std.proofs.Common.{◌≡◌, ℕ, ◌+◌, ◌-◌, ◌≤◌, List,
 use Rattle.std.specs.Prelude.{slice_get}
 use Rattle.std.specs.Bool.{then_some}
 use Rattle.std.proofs.lemmas.Option.{slice_get-get_or}
-use Rattle.vir_term.specs.Tree.{Tree, leaf, rev, seq, par, loop, size, nesting}
+use Rattle.vir_term.specs.Tree.{Tree, leaf, rev, seq, par, loop, End, number_of, size, nesting}
 use Rattle.vir_term.specs.declared.leaf.Leaf.{Leaf}
 use Rattle.vir_term.specs.Limits.{IsCount, IsLeafInRange, IsInRange}
 use Rattle.vir_term.proofs.TreeLemmas.{size_positive, nesting_positive}
 use Rattle.vir_code.specs.declared.instr.Instr.{Instr}
-use Rattle.vir_code.specs.declared.instr.Instr.TheVariants.{Call, KeepDomain, FetchDomain, JoinSeq, JoinMax, Revise, StartLoop, LoopTest, LoopBack, EndLoop}
+use Rattle.vir_code.specs.declared.instr.Instr.TheVariants.{Call, KeepDomain, FetchDomain, JoinSeq, JoinMax, Revise, StartLoop, LoopBack, EndLoop}
 use Rattle.vir_code.specs.declared.validation.Piece.{Piece}
+use Rattle.vir_code.specs.Code.{test_of}
 use Rattle.vir_code.specs.Places.{HasAt, EndsAt, NoneFits, IsPiece, IsAnswer}
 use Rattle.vir_code.proofs.Unique.{Ending, last_of, ending, put_together, one_term, width_positive}
 
@@ -159,12 +160,12 @@ module _ (code : List Instr) (read : Instr) (end room levels : ℕ) (some : end 
       by start t g e small flat ranged = cc
 
   -- where the body of a loop begins
-  body_starts : (body : Piece) → (m : Tree) × IsPiece code (end - 1 - 1) (room - 1) (levels - 1) body m → (start k : ℕ) (n : Tree) → Ending code (end - 1) start (loop k n) → start + 2 ≡ body.start
+  body_starts : (body : Piece) → (m : Tree) × IsPiece code (end - 1 - 1) (room - 1) (levels - 1) body m → (start : ℕ) (k : End) (n : Tree) → Ending code (end - 1) start (loop k n) → start + 2 ≡ body.start
   body_starts body found start k n g =
       let turn : g.parts.0 ≡ end - 1 - 1 = omega (arith, g.parts.1) in
       (one_term code (end - 1 - 1) (start + 2) body.start n found.0 (subst (λ q. EndsAt code q (start + 2) n) turn g.parts.3) found.1.place).place
 
-  pub none_started : read ≡ EndLoop → (body : Piece) → (m : Tree) × IsPiece code (end - 1 - 1) (room - 1) (levels - 1) body m → ((at k : ℕ) → at + 2 ≡ body.start → HasAt code at (StartLoop ∷ (LoopTest k (end - 1) ∷ [])) → IsCount k → ⊥) → NoneFits code end room levels
+  pub none_started : read ≡ EndLoop → (body : Piece) → (m : Tree) × IsPiece code (end - 1 - 1) (room - 1) (levels - 1) body m → ((at : ℕ) (k : End) → at + 2 ≡ body.start → HasAt code at (StartLoop ∷ (test_of k (end - 1) ∷ [])) → IsCount (number_of k) → ⊥) → NoneFits code end room levels
   none_started at body found none start t h small flat ranged = let g = ends EndLoop at start t h in by start t g.0 g.1 ranged
     where
       by : (start : ℕ) (t : Tree) → Ending code (end - 1) start t → Some (last_of t) ≡ Some EndLoop → IsInRange t → ⊥
@@ -184,7 +185,7 @@ module _ (code : List Instr) (read : Instr) (end room levels : ℕ) (some : end 
           apart (omega arith)
       by start t g e = cc
 
-  pub answer_loop : read ≡ EndLoop → (body : Piece) → (m : Tree) × IsPiece code (end - 1 - 1) (room - 1) (levels - 1) body m → (test : ℕ) → (turn : ℕ) × (turn + 1 ≡ end - 1) × HasAt code turn (LoopBack test ∷ []) → (start : ℕ) → (k : ℕ) × (start + 2 ≡ body.start) × HasAt code start (StartLoop ∷ (LoopTest k (end - 1) ∷ [])) × IsCount k → test ≡ start + 1 → IsAnswer code end room levels (Some (record { start = start; room = body.room }))
+  pub answer_loop : read ≡ EndLoop → (body : Piece) → (m : Tree) × IsPiece code (end - 1 - 1) (room - 1) (levels - 1) body m → (test : ℕ) → (turn : ℕ) × (turn + 1 ≡ end - 1) × HasAt code turn (LoopBack test ∷ []) → (start : ℕ) → (k : End) × (start + 2 ≡ body.start) × HasAt code start (StartLoop ∷ (test_of k (end - 1) ∷ [])) × IsCount (number_of k) → test ≡ start + 1 → IsAnswer code end room levels (Some (record { start = start; room = body.room }))
   answer_loop at body (m, p) test (turn, next, back) start (k, starts, head, count) same =
       let small = p.size in
       let flat = p.nesting in

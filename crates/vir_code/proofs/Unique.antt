@@ -1,10 +1,10 @@
 -- A place of a code ends the code of one term at most.
 use Rattle.std.proofs.Common.{◌≡◌, ℕ, ◌+◌, ◌-◌, ◌*◌, ◌≤◌, List, [], ◌∷◌, ◌++◌, length, Some, refl, sym, ap, ◌∙◌, subst, arith, length-append}
 use Rattle.std.specs.Prelude.{slice_get}
-use Rattle.vir_term.specs.Tree.{Tree, leaf, rev, seq, par, loop, size}
+use Rattle.vir_term.specs.Tree.{Tree, leaf, rev, seq, par, loop, End, exactly, at_most, size}
 use Rattle.vir_code.specs.declared.instr.Instr.{Instr}
-use Rattle.vir_code.specs.declared.instr.Instr.TheVariants.{Call, KeepDomain, FetchDomain, JoinSeq, JoinMax, Revise, StartLoop, LoopTest, LoopBack, EndLoop}
-use Rattle.vir_code.specs.Code.{width, code_at, code_of, CodesAreUnique}
+use Rattle.vir_code.specs.declared.instr.Instr.TheVariants.{Call, KeepDomain, FetchDomain, JoinSeq, JoinMax, Revise, StartLoop, LoopBack, EndLoop}
+use Rattle.vir_code.specs.Code.{test_of, width, code_at, code_of, CodesAreUnique}
 use Rattle.vir_code.specs.Places.{HasAt, EndsAt}
 use Rattle.vir_code.proofs.At.{has_front, has_back, has_both, has_all, has_whole}
 
@@ -53,7 +53,7 @@ Parts code last start (seq m n) =
 Parts code last start (par m n) = (middle : ℕ) × EndsAt code last middle n × EndsAt code middle start m
 Parts code last start (loop k m) =
     (turn : ℕ) × (turn + 1 ≡ last) × (slice_get code turn ≡ Some (LoopBack (start + 1))) × EndsAt code turn (start + 2) m
-    × HasAt code start (StartLoop ∷ (LoopTest k last ∷ []))
+    × HasAt code start (StartLoop ∷ (test_of k last ∷ []))
 
 -- the code of a term ends in its last instruction, after its parts
 pub record Ending (code : List Instr) (last start : ℕ) (t : Tree) : Type 0 where
@@ -97,7 +97,7 @@ taken_apart code last start (par m n) h =
     }
 taken_apart code last start (loop k m) h =
     let exit = start + 2 + width m + 1 in
-    let head = StartLoop ∷ (LoopTest k exit ∷ []) in
+    let head = StartLoop ∷ (test_of k exit ∷ []) in
     let a = code_at (start + 2) m in
     let turn = start + 2 + width m in
     let tail = LoopBack (start + 1) ∷ (EndLoop ∷ []) in
@@ -107,7 +107,7 @@ taken_apart code last start (loop k m) h =
     let e : turn + 1 ≡ last = omega arith in
     record {
       at_last = subst (λ n. slice_get code n ≡ Some EndLoop) e after_a.1.0;
-      parts = (turn, e, after_a.0, record { stands = has_front code (start + 2) a tail after_head; ends = refl }, subst (λ n. HasAt code start (StartLoop ∷ (LoopTest k n ∷ []))) e (has_front code start head (a ++ tail) h.stands));
+      parts = (turn, e, after_a.0, record { stands = has_front code (start + 2) a tail after_head; ends = refl }, subst (λ n. HasAt code start (StartLoop ∷ (test_of k n ∷ []))) e (has_front code start head (a ++ tail) h.stands));
     }
 
 pub put_together : (code : List Instr) (last start : ℕ) (t : Tree) → Ending code last start t → EndsAt code (last + 1) start t
@@ -150,7 +150,7 @@ put_together code last start (par m n) h =
     }
 put_together code last start (loop k m) h =
     let turn = h.parts.0 in
-    let head = StartLoop ∷ (LoopTest k last ∷ []) in
+    let head = StartLoop ∷ (test_of k last ∷ []) in
     let a = code_at (start + 2) m in
     let tail = LoopBack (start + 1) ∷ (EndLoop ∷ []) in
     let length-a = length-code_at (start + 2) m in
@@ -161,7 +161,7 @@ put_together code last start (loop k m) h =
     let from_a = has_both code (start + 2) turn a tail (omega arith) h.parts.3.stands from_tail in
     let exit : last ≡ start + 2 + width m + 1 = omega arith in
     record {
-      stands = subst (λ n. HasAt code start ((StartLoop ∷ (LoopTest k n ∷ [])) ++ (a ++ tail))) exit (has_both code start (start + 2) head (a ++ tail) (omega arith) h.parts.4 from_a);
+      stands = subst (λ n. HasAt code start ((StartLoop ∷ (test_of k n ∷ [])) ++ (a ++ tail))) exit (has_both code start (start + 2) head (a ++ tail) (omega arith) h.parts.4 from_a);
       ends = omega arith;
     }
 
@@ -179,6 +179,13 @@ last_before code end start t h =
 
 pub ending : (code : List Instr) (last end start : ℕ) (t : Tree) → last + 1 ≡ end → EndsAt code end start t → Ending code last start t
 ending code last end start t e h = taken_apart code last start t (subst (λ n. EndsAt code n start t) (sym e) h)
+
+-- a test tells where its loop ends
+same_end : (exit : ℕ) (k j : End) → Some (test_of k exit) ≡ Some (test_of j exit) → k ≡ j
+same_end exit (exactly k) (exactly j) e = let same : k ≡ j = cc in ap exactly same
+same_end exit (at_most k) (at_most j) e = let same : k ≡ j = cc in ap at_most same
+same_end exit (exactly k) (at_most j) e = absurd cc
+same_end exit (at_most k) (exactly j) e = absurd cc
 
 -- no instruction ends the code of two terms
 same_ending : (code : List Instr) (t u : Tree) (last p q : ℕ) → Ending code last p t → Ending code last q u → Same p q t u
@@ -211,8 +218,8 @@ same_ending code (loop k m) (loop k' m') last p q g h =
     let z = last_before code g.parts.0 (p + 2) m g.parts.3 in
     let r = same_ending code m m' z.0 (p + 2) (q + 2) (ending code z.0 g.parts.0 (p + 2) m z.1 g.parts.3) (ending code z.0 h.parts.0 (q + 2) m' (z.1 ∙ sym turn) h.parts.3) in
     let place : p ≡ q = omega (arith, r.place) in
-    let test : Some (LoopTest k last) ≡ Some (LoopTest k' last) = sym g.parts.4.1.0 ∙ ap (λ n. slice_get code (n + 1)) place ∙ h.parts.4.1.0 in
-    let number : k ≡ k' = cc in
+    let test : Some (test_of k last) ≡ Some (test_of k' last) = sym g.parts.4.1.0 ∙ ap (λ n. slice_get code (n + 1)) place ∙ h.parts.4.1.0 in
+    let number : k ≡ k' = same_end last k k' test in
     record { place = place; term = ap (λ x. loop x m) number ∙ ap (λ x. loop k' x) r.term }
 same_ending code (loop k m) u last p q g h = absurd (let e : Some (last_of (loop k m)) ≡ Some (last_of u) = sym g.at_last ∙ h.at_last in cc)
 

@@ -1,8 +1,13 @@
 -- The code of a term.
 use Rattle.std.specs.Prelude.{◌≡◌, ℕ, ◌+◌, List, [], ◌∷◌, ◌++◌}
-use Rattle.vir_term.specs.Tree.{Tree, leaf, rev, seq, par, loop}
+use Rattle.vir_term.specs.Tree.{Tree, leaf, rev, seq, par, loop, End, exactly, at_most}
 use Rattle.vir_code.specs.declared.instr.Instr.{Instr}
-use Rattle.vir_code.specs.declared.instr.Instr.TheVariants.{Call, KeepDomain, FetchDomain, JoinSeq, JoinMax, Revise, StartLoop, LoopTest, LoopBack, EndLoop}
+use Rattle.vir_code.specs.declared.instr.Instr.TheVariants.{Call, KeepDomain, FetchDomain, JoinSeq, JoinMax, Revise, StartLoop, LoopTest, UntilTest, LoopBack, EndLoop}
+
+-- the test of a loop, by where it ends
+abbrev pub test_of : End → ℕ → Instr
+test_of (exactly k) exit = LoopTest k exit
+test_of (at_most k) exit = UntilTest k exit
 
 -- how many instructions the code of a term has
 abbrev pub width : Tree → ℕ
@@ -20,7 +25,7 @@ code_at p (seq first second) =
     code_at p first ++ (KeepDomain ∷ (FetchDomain ∷ (code_at (p + width first + 2) second ++ JoinSeq ∷ [])))
 code_at p (par first second) = code_at p first ++ (code_at (p + width first) second ++ JoinMax ∷ [])
 code_at p (loop k body) =
-    StartLoop ∷ (LoopTest k (p + 2 + width body + 1) ∷ (code_at (p + 2) body ++ (LoopBack (p + 1) ∷ (EndLoop ∷ []))))
+    StartLoop ∷ (test_of k (p + 2 + width body + 1) ∷ (code_at (p + 2) body ++ (LoopBack (p + 1) ∷ (EndLoop ∷ []))))
 
 -- the code of a term: its first instruction stands at 0
 abbrev pub code_of : Tree → List Instr

@@ -1,7 +1,7 @@
 -- For a private clause alone: the depth by a pass over the instructions, each done once.
 use Rattle.std.specs.Prelude.{ℕ, ◌+◌, ◌-◌, max, List, [], ◌∷◌}
 use Rattle.vir_code.specs.declared.instr.Instr.{Instr}
-use Rattle.vir_code.specs.declared.instr.Instr.TheVariants.{Call, KeepDomain, FetchDomain, JoinSeq, JoinMax, Revise, StartLoop, LoopTest, LoopBack, EndLoop}
+use Rattle.vir_code.specs.declared.instr.Instr.TheVariants.{Call, KeepDomain, FetchDomain, JoinSeq, JoinMax, Revise, StartLoop, LoopTest, UntilTest, LoopBack, EndLoop}
 
 -- how many splits are on the stack after an instruction, where so many were there before
 abbrev pub height_after : Instr → ℕ → ℕ
@@ -13,6 +13,7 @@ height_after JoinMax height = height - 1
 height_after Revise height = height
 height_after StartLoop height = height + 1
 height_after (LoopTest k exit) height = height
+height_after (UntilTest k exit) height = height
 height_after (LoopBack start) height = height - 1
 height_after EndLoop height = height
 

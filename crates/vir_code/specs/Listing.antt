@@ -2,7 +2,7 @@
 use Rattle.std.specs.Prelude.{ℕ, ◌+◌, List, [], ◌∷◌, ◌++◌, codes, decimal}
 use Rattle.vir_term.specs.Text.{leaf_text}
 use Rattle.vir_code.specs.declared.instr.Instr.{Instr}
-use Rattle.vir_code.specs.declared.instr.Instr.TheVariants.{Call, KeepDomain, FetchDomain, JoinSeq, JoinMax, Revise, StartLoop, LoopTest, LoopBack, EndLoop}
+use Rattle.vir_code.specs.declared.instr.Instr.TheVariants.{Call, KeepDomain, FetchDomain, JoinSeq, JoinMax, Revise, StartLoop, LoopTest, UntilTest, LoopBack, EndLoop}
 
 -- the name of an instruction, and its arguments, each after a space
 abbrev pub instr_text : Instr → List ℕ
@@ -14,6 +14,7 @@ instr_text JoinMax = codes "join-max"
 instr_text Revise = codes "revise"
 instr_text StartLoop = codes "start-loop"
 instr_text (LoopTest k exit) = codes "loop-test " ++ decimal k ++ codes " " ++ decimal exit
+instr_text (UntilTest k exit) = codes "until-test " ++ decimal k ++ codes " " ++ decimal exit
 instr_text (LoopBack start) = codes "loop-back " ++ decimal start
 instr_text EndLoop = codes "end-loop"
 

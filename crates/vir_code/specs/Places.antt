@@ -1,11 +1,11 @@
 -- For private clauses and proofs alone: what stands at the places of a list of instructions.
 use Rattle.std.specs.Prelude.{◌≡◌, ℕ, ◌+◌, ◌≤◌, List, [], ◌∷◌, Option, Some, MatchOption, slice_get}
-use Rattle.vir_term.specs.Tree.{Tree, size, nesting}
+use Rattle.vir_term.specs.Tree.{Tree, End, size, nesting}
 use Rattle.vir_term.specs.Limits.{IsInRange}
 use Rattle.vir_code.specs.declared.instr.Instr.{Instr}
-use Rattle.vir_code.specs.declared.instr.Instr.TheVariants.{KeepDomain, FetchDomain, StartLoop, LoopTest}
+use Rattle.vir_code.specs.declared.instr.Instr.TheVariants.{KeepDomain, FetchDomain, StartLoop}
 use Rattle.vir_code.specs.declared.validation.Piece.{Piece}
-use Rattle.vir_code.specs.Code.{width, code_at}
+use Rattle.vir_code.specs.Code.{test_of, width, code_at}
 
 -- the instructions stand in the list from this position on
 abbrev pub HasAt : List Instr → ℕ → List Instr → Type 0
@@ -22,8 +22,8 @@ abbrev pub between : List Instr
 between = KeepDomain ∷ (FetchDomain ∷ [])
 
 -- the two instructions before the body of a loop
-abbrev pub before_body : ℕ → ℕ → List Instr
-before_body k exit = StartLoop ∷ (LoopTest k exit ∷ [])
+abbrev pub before_body : End → ℕ → List Instr
+before_body k exit = StartLoop ∷ (test_of k exit ∷ [])
 
 -- no term of which the code ends here fits into the room, is nested in at most so many levels, and is in range
 abbrev pub NoneFits : List Instr → ℕ → ℕ → ℕ → Type 0

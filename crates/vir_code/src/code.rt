@@ -80,6 +80,7 @@ fn height_after(instr: &Instr, height: usize) -> usize
         | Instr::FetchDomain
         | Instr::Revise
         | Instr::LoopTest { .. }
+        | Instr::UntilTest { .. }
         | Instr::EndLoop => height,
     }
 }

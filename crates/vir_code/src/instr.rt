@@ -21,6 +21,9 @@ pub enum Instr {
     /// Leaves the loop where the domain has exactly `k` members. `exit` is the position of the loop's
     /// end.
     LoopTest { k: u32, exit: usize },
+    /// Leaves the loop where the domain has at most `k` members. `exit` is the position of the loop's
+    /// end.
+    UntilTest { k: u32, exit: usize },
     /// Pops the split of one turn. Where it defers the whole domain, the loop is over; else it is
     /// joined to those of the turns before, and the next turn decides on what it defers. `start` is
     /// the position of the loop's test.

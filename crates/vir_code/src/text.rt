@@ -1,5 +1,5 @@
 // Code as text.
-ghost use Rattle.std.specs.Prelude.{◌≡◌, ◌++◌, IfOk, OnOk, decimal};
+ghost use Rattle.std.specs.Prelude.{◌≡◌, ◌++◌, IfOk, OnOk, codes, decimal};
 ghost use Rattle.vir_code.specs.Listing.{instr_text, line_text, listing_text};
 
 use crate::code::Code;
@@ -54,18 +54,24 @@ fn push_instr(alloc: Global, text: &mut Vec<u8>, instr: &Instr) -> Result<(), Al
         Instr::JoinMax => text.extend_from_slice(b"join-max"),
         Instr::Revise => text.extend_from_slice(b"revise"),
         Instr::StartLoop => text.extend_from_slice(b"start-loop"),
-        Instr::LoopTest { k, exit } => {
-            text.extend_from_slice(b"loop-test ")?;
-            push_count(text, *k)?;
-            text.extend_from_slice(b" ")?;
-            push_position(text, *exit)
-        }
+        Instr::LoopTest { k, exit } => push_test(text, b"loop-test ", *k, *exit),
+        Instr::UntilTest { k, exit } => push_test(text, b"until-test ", *k, *exit),
         Instr::LoopBack { start } => {
             text.extend_from_slice(b"loop-back ")?;
             push_position(text, *start)
         }
         Instr::EndLoop => text.extend_from_slice(b"end-loop"),
     }
+}
+
+// Appends a loop's test, whose name ends with a space.
+fn push_test(text: &mut Vec<u8>, name: &[u8], k: u32, exit: usize) -> Result<(), AllocError>
+    ensures { OnOk result (text.new.items ≡ text.old.items ++ (name.now ++ decimal k ++ codes " " ++ decimal exit)) }
+{
+    text.extend_from_slice(name)?;
+    push_count(text, k)?;
+    text.extend_from_slice(b" ")?;
+    push_position(text, exit)
 }
 
 // Appends a position in decimal digits.

@@ -1,8 +1,10 @@
-ghost use Rattle.std.specs.Prelude.{◌≡◌, ◌+◌, ◌≤◌, ℕ, [], ◌∷◌, length, MatchOption, SomeIff};
+ghost use Rattle.std.specs.Prelude.{◌≡◌, ◌+◌, ◌≤◌, ◌↔◌, ℕ, IsTrue, [], ◌∷◌, length, MatchOption, SomeIff};
 ghost use Rattle.vir_term.specs.Limits.{IsCount};
+ghost use Rattle.vir_term.specs.Tree.{End, number_of};
 ghost use Rattle.vir_code.specs.Valid.{IsValid};
+ghost use Rattle.vir_code.specs.Code.{test_of};
 ghost use Rattle.vir_code.specs.Places.{HasAt, IsAnswer, between, before_body};
-ghost use Rattle.vir_code.specs.declared.instr.Instr.TheVariants.{LoopBack};
+ghost use Rattle.vir_code.specs.declared.instr.Instr.TheVariants.{StartLoop, LoopBack};
 
 use crate::code::{CODE_LIMIT, Code};
 use crate::instr::Instr;
@@ -102,15 +104,43 @@ fn loop_back_before(list: &[Instr], end: usize) -> Option<usize>
 // and test for a number within the limits.
 fn loop_start_before(list: &[Instr], end: usize, exit: usize) -> Option<usize>
     requires { end ≤ length list.now }
-    ensures { MatchOption result ((at k : ℕ) → at + 2 ≡ end → HasAt list.now at (before_body k exit) → IsCount k → ⊥) (λ at. (k : ℕ) × (at + 2 ≡ end) × HasAt list.now at (before_body k exit) × IsCount k) }
+    ensures { MatchOption result ((at : ℕ) (k : End) → at + 2 ≡ end → HasAt list.now at (before_body k exit) → IsCount (number_of k) → ⊥) (λ at. (k : End) × (at + 2 ≡ end) × HasAt list.now at (before_body k exit) × IsCount (number_of k)) }
 {
     if end < 2 {
         return None;
     }
-    match (&list[end - 2], &list[end - 1]) {
-        (Instr::StartLoop, Instr::LoopTest { k, exit: to }) if *to == exit && is_count(*k) => Some(
-            end - 2,
-        ),
+    if !is_start(&list[end - 2]) {
+        return None;
+    }
+    let test = tested(&list[end - 1])?;
+    if test.exit == exit && is_count(test.k) {
+        Some(end - 2)
+    } else {
+        None
+    }
+}
+
+// Whether the instruction starts a loop.
+fn is_start(instr: &Instr) -> bool
+    ensures { IsTrue result ↔ (instr.now ≡ StartLoop) }
+{
+    matches!(instr, Instr::StartLoop)
+}
+
+// What a loop's test tests for, and where it leads.
+#[derive(Clone, Copy, Drop)]
+struct Test {
+    k: u32,
+    exit: usize,
+}
+
+// The test of a loop, of either kind, if the instruction is one.
+fn tested(instr: &Instr) -> Option<Test>
+    ensures { MatchOption result ((k : End) (exit : ℕ) → instr.now ≡ test_of k exit → ⊥) (λ test. (k : End) × (instr.now ≡ test_of k test.exit) × (number_of k ≡ test.k)) }
+{
+    match instr {
+        Instr::LoopTest { k, exit } => Some(Test { k: *k, exit: *exit }),
+        Instr::UntilTest { k, exit } => Some(Test { k: *k, exit: *exit }),
         _ => None,
     }
 }

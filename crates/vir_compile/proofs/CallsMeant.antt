@@ -1,12 +1,13 @@
 -- The modules that the meaning calls, by the parts of the term.
-use Rattle.std.proofs.Common.{◌≡◌, ℕ, zero, suc, ◌<◌, Bool, true, false, List, [], ◌++◌, if◌then◌else◌, nat_eq, refl, ap, ◌∙◌, arith}
+use Rattle.std.proofs.Common.{◌≡◌, ℕ, zero, suc, ◌<◌, Bool, true, false, List, [], ◌++◌, if◌then◌else◌, refl, ap, ◌∙◌, arith}
 use Rattle.std.specs.FinSet as set
 use Rattle.vir_altset.specs.Sets.{Set}
 use Rattle.vir_altset.specs.Splits.{IsSplitOf}
 use Rattle.vir_profile.specs.declared.ballot.Entry.{Entry}
 use Rattle.vir_profile.specs.Profiles.{restrict}
 use Rattle.vir_term.specs.declared.leaf.Leaf.{Leaf}
-use Rattle.vir_term.specs.Tree.{Tree, seq, loop}
+use Rattle.vir_term.specs.Tree.{Tree, seq, loop, End}
+use Rattle.vir_mean.specs.Compositions.{is_end}
 use Rattle.vir_mean.specs.Modules.{Meaning}
 use Rattle.vir_mean.specs.Meaning.{mean}
 use Rattle.vir_compile.specs.Calls.{Calls, turns_calls, calls_of}
@@ -14,7 +15,7 @@ use Rattle.vir_compile.proofs.Sets.{restrict_restrict}
 use Rattle.vir_compile.proofs.Meant.{less, mean-split, meant, meant-part}
 
 -- the calls of a loop over a meaning that splits each set
-module _ (k : ℕ) (m : Meaning) (c : Calls) (splits : (a : Set) (p : List Entry) → IsSplitOf a (m a p)) where
+module _ (k : End) (m : Meaning) (c : Calls) (splits : (a : Set) (p : List Entry) → IsSplitOf a (m a p)) where
   -- those of the turns after the first
   abbrev later : ℕ → Set → List Entry → List Leaf
   later n a p = turns_calls n k m c (m a p).deferred (restrict (m a p).deferred p)
@@ -25,7 +26,7 @@ module _ (k : ℕ) (m : Meaning) (c : Calls) (splits : (a : Set) (p : List Entry
   enough_calls zero n' a p f g = absurd (omega arith)
   enough_calls (suc n) zero a p f g = absurd (omega arith)
   enough_calls (suc n) (suc n') a p f g =
-      pick (λ few. enough_calls n n' (m a p).deferred (restrict (m a p).deferred p) (omega arith) (omega arith)) (nat_eq (set.len a) k) (set.is_subset a (m a p).deferred) refl
+      pick (λ few. enough_calls n n' (m a p).deferred (restrict (m a p).deferred p) (omega arith) (omega arith)) (is_end k (set.len a)) (set.is_subset a (m a p).deferred) refl
     where
       pick : (set.len (m a p).deferred < set.len a → later n a p ≡ later n' a p) → (b d : Bool) → set.is_subset a (m a p).deferred ≡ d
           → (if b then [] else (c a p ++ (if d then [] else later n a p))) ≡ (if b then [] else (c a p ++ (if d then [] else later n' a p)))
@@ -34,13 +35,13 @@ module _ (k : ℕ) (m : Meaning) (c : Calls) (splits : (a : Set) (p : List Entry
       pick again false false h = ap (λ l. c a p ++ l) (again (less k m splits a p h))
 
   -- a loop whose number is met calls none
-  pub calls-met : (a : Set) (p : List Entry) → nat_eq (set.len a) k ≡ true → turns_calls (suc (set.len a)) k m c a p ≡ []
+  pub calls-met : (a : Set) (p : List Entry) → is_end k (set.len a) ≡ true → turns_calls (suc (set.len a)) k m c a p ≡ []
   unfolding turns_calls
   calls-met a p met =
       ap (λ b. if b then [] else (c a p ++ (if set.is_subset a (m a p).deferred then [] else later (set.len a) a p))) met
 
   -- one whose number is not met calls what its body calls, and goes on unless that defers all
-  pub calls-unmet : (a : Set) (p : List Entry) → nat_eq (set.len a) k ≡ false
+  pub calls-unmet : (a : Set) (p : List Entry) → is_end k (set.len a) ≡ false
       → turns_calls (suc (set.len a)) k m c a p ≡ c a p ++ (if set.is_subset a (m a p).deferred then [] else later (suc (set.len (m a p).deferred)) a p)
   unfolding turns_calls
   calls-unmet a p unmet =
@@ -64,11 +65,11 @@ module _ (lines : List Entry) where
   pub calls_on-seq : (m n : Tree) (a : Set) → calls_on (seq m n) a ≡ calls_on m a ++ calls_on n (meant lines m a).deferred
   calls_on-seq m n a = ap (λ l. calls_on m a ++ l) (again n m a)
 
-  module _ (k : ℕ) (m : Tree) (a : Set) where
-    pub calls_on-met : nat_eq (set.len a) k ≡ true → calls_on (loop k m) a ≡ []
+  module _ (k : End) (m : Tree) (a : Set) where
+    pub calls_on-met : is_end k (set.len a) ≡ true → calls_on (loop k m) a ≡ []
     calls_on-met met = calls-met k (mean m) (calls_of m) (mean-split m) a (restrict a lines) met
 
-    pub calls_on-unmet : nat_eq (set.len a) k ≡ false → calls_on (loop k m) a ≡ calls_on m a ++ (if set.is_subset a (meant lines m a).deferred then [] else calls_on (loop k m) (meant lines m a).deferred)
+    pub calls_on-unmet : is_end k (set.len a) ≡ false → calls_on (loop k m) a ≡ calls_on m a ++ (if set.is_subset a (meant lines m a).deferred then [] else calls_on (loop k m) (meant lines m a).deferred)
     calls_on-unmet unmet =
         calls-unmet k (mean m) (calls_of m) (mean-split m) a (restrict a lines) unmet
         ∙ ap (λ l. calls_on m a ++ (if set.is_subset a (meant lines m a).deferred then [] else l)) (again (loop k m) m a)

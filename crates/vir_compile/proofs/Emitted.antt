@@ -2,11 +2,11 @@
 use Rattle.std.proofs.Common.{◌≡◌, ℕ, ◌+◌, ◌≤◌, List, [], ◌∷◌, ◌++◌, length, Result, Ok, Err, OnOk, ap, ◌∙◌, arith, append_assoc, length-append}
 use Rattle.std.specs.Prelude.{slice_set}
 use Rattle.std.proofs.Math.Seq.{set-append_seam}
-use Rattle.vir_term.specs.Tree.{Tree, leaf, rev, seq, par, loop, nesting}
+use Rattle.vir_term.specs.Tree.{Tree, leaf, rev, seq, par, loop, End, nesting}
 use Rattle.vir_term.specs.Limits.{IsWithinLimits}
 use Rattle.vir_code.specs.declared.instr.Instr.{Instr}
-use Rattle.vir_code.specs.declared.instr.Instr.TheVariants.{KeepDomain, FetchDomain, JoinSeq, JoinMax, StartLoop, LoopTest, LoopBack, EndLoop}
-use Rattle.vir_code.specs.Code.{width, code_at, code_of}
+use Rattle.vir_code.specs.declared.instr.Instr.TheVariants.{KeepDomain, FetchDomain, JoinSeq, JoinMax, StartLoop, LoopBack, EndLoop}
+use Rattle.vir_code.specs.Code.{test_of, width, code_at, code_of}
 use Rattle.vir_code.specs.Depth.{depth_of}
 use Rattle.vir_code.specs.Valid.{IsValid}
 use Rattle.vir_code.proofs.Unique.{length-code_at, width_small}
@@ -45,7 +45,7 @@ par_emitted base c1 c2 c3 m n e1 e2 e3 =
     let flat : ((base ++ a) ++ code_at (length c1) n) ++ JoinMax ∷ [] ≡ base ++ (a ++ (code_at (length c1) n ++ JoinMax ∷ [])) = simp append_assoc in
     all ∙ flat ∙ ap (λ p. base ++ (a ++ (code_at p n ++ JoinMax ∷ []))) q
 
-pub loop_emitted : (base c1 c2 c3 c4 c5 c6 : List Instr) (x : Instr) (test exit k : ℕ) (m : Tree) → c1 ≡ base ++ StartLoop ∷ [] → test ≡ length c1 → c2 ≡ c1 ++ x ∷ [] → c3 ≡ c2 ++ code_at (length c2) m → c4 ≡ c3 ++ LoopBack test ∷ [] → exit ≡ length c4 → c5 ≡ slice_set c4 test (LoopTest k exit) → c6 ≡ c5 ++ EndLoop ∷ [] → c6 ≡ base ++ code_at (length base) (loop k m)
+pub loop_emitted : (base c1 c2 c3 c4 c5 c6 : List Instr) (x : Instr) (test exit : ℕ) (k : End) (m : Tree) → c1 ≡ base ++ StartLoop ∷ [] → test ≡ length c1 → c2 ≡ c1 ++ x ∷ [] → c3 ≡ c2 ++ code_at (length c2) m → c4 ≡ c3 ++ LoopBack test ∷ [] → exit ≡ length c4 → c5 ≡ slice_set c4 test (test_of k exit) → c6 ≡ c5 ++ EndLoop ∷ [] → c6 ≡ base ++ code_at (length base) (loop k m)
 loop_emitted base c1 c2 c3 c4 c5 c6 x test exit k m e1 m1 e2 e3 e4 m2 e5 e6 =
     let p = length base in
     let a = code_at (length c2) m in
@@ -57,7 +57,7 @@ loop_emitted base c1 c2 c3 c4 c5 c6 x test exit k m e1 m1 e2 e3 e4 m2 e5 e6 =
     let q : length c2 ≡ p + 2 = omega arith in
     let r : test ≡ p + 1 = omega arith in
     let s : exit ≡ p + 2 + width m + 1 = omega arith in
-    let i = LoopTest k exit in
+    let i = test_of k exit in
     let back = LoopBack test in
     let whole : c4 ≡ ((c1 ++ x ∷ []) ++ a) ++ back ∷ [] = cc in
     let flat : ((c1 ++ x ∷ []) ++ a) ++ back ∷ [] ≡ c1 ++ x ∷ (a ++ back ∷ []) = simp append_assoc in
@@ -68,8 +68,8 @@ loop_emitted base c1 c2 c3 c4 c5 c6 x test exit k m e1 m1 e2 e3 e4 m2 e5 e6 =
     let out : ((base ++ StartLoop ∷ []) ++ i ∷ (a ++ back ∷ [])) ++ EndLoop ∷ [] ≡ base ++ (StartLoop ∷ (i ∷ (a ++ (back ∷ (EndLoop ∷ []))))) = simp append_assoc in
     all ∙ out
     ∙ ap (λ n. base ++ (StartLoop ∷ (i ∷ (code_at n m ++ (back ∷ (EndLoop ∷ [])))))) q
-    ∙ ap (λ n. base ++ (StartLoop ∷ (LoopTest k n ∷ (code_at (p + 2) m ++ (back ∷ (EndLoop ∷ [])))))) s
-    ∙ ap (λ n. base ++ (StartLoop ∷ (LoopTest k (p + 2 + width m + 1) ∷ (code_at (p + 2) m ++ (LoopBack n ∷ (EndLoop ∷ [])))))) r
+    ∙ ap (λ n. base ++ (StartLoop ∷ (test_of k n ∷ (code_at (p + 2) m ++ (back ∷ (EndLoop ∷ [])))))) s
+    ∙ ap (λ n. base ++ (StartLoop ∷ (test_of k (p + 2 + width m + 1) ∷ (code_at (p + 2) m ++ (LoopBack n ∷ (EndLoop ∷ [])))))) r
 
 -- the code of a term within limits is valid
 pub compiled_valid : (list : List Instr) (t : Tree) → IsWithinLimits t → list ≡ code_of t → IsValid list

@@ -1,5 +1,5 @@
 -- The code of a term leads past it, with the term's meaning on top.
-use Rattle.std.proofs.Common.{◌≡◌, ℕ, zero, suc, ◌+◌, ◌<◌, ◌≤◌, Bool, true, false, List, [], ◌∷◌, ◌++◌, length, Some, nat_eq, if◌then◌else◌, refl, sym, ap, ◌∙◌, subst, arith}
+use Rattle.std.proofs.Common.{◌≡◌, ℕ, zero, suc, ◌+◌, ◌<◌, ◌≤◌, Bool, true, false, List, [], ◌∷◌, ◌++◌, length, Some, if◌then◌else◌, refl, sym, ap, ◌∙◌, subst, arith}
 use Rattle.std.specs.Prelude.{slice_get}
 use Rattle.std.proofs.lemmas.List.{append-nil}
 use Rattle.std.specs.FinSet as set
@@ -8,14 +8,15 @@ use Rattle.vir_altset.specs.declared.split.Split.{Split}
 use Rattle.vir_altset.proofs.SizeLaws.{len-part}
 use Rattle.vir_profile.specs.declared.ballot.Entry.{Entry}
 use Rattle.vir_term.specs.declared.leaf.Leaf.{Leaf}
-use Rattle.vir_term.specs.Tree.{Tree, leaf, rev, seq, par, loop}
+use Rattle.vir_term.specs.Tree.{Tree, leaf, rev, seq, par, loop, End, exactly, at_most}
 use Rattle.vir_code.specs.declared.instr.Instr.{Instr}
-use Rattle.vir_code.specs.declared.instr.Instr.TheVariants.{Call, KeepDomain, FetchDomain, JoinSeq, JoinMax, Revise, StartLoop, LoopTest, LoopBack, EndLoop}
+use Rattle.vir_code.specs.declared.instr.Instr.TheVariants.{Call, KeepDomain, FetchDomain, JoinSeq, JoinMax, Revise, StartLoop, LoopBack, EndLoop}
+use Rattle.vir_code.specs.Code.{test_of}
 use Rattle.vir_code.specs.Depth.{depth_of}
 use Rattle.vir_code.specs.Places.{EndsAt}
 use Rattle.vir_code.proofs.DepthLemmas.{depth_positive}
 use Rattle.vir_code.proofs.Unique.{Ending, last_before, ending}
-use Rattle.vir_mean.specs.Compositions.{joined, merged}
+use Rattle.vir_mean.specs.Compositions.{is_end, joined, merged}
 use Rattle.vir_compile.specs.Exec.{State, state, undecided, act}
 use Rattle.vir_compile.specs.Calls.{called}
 use Rattle.vir_compile.specs.StepsLeft.{origin}
@@ -24,6 +25,15 @@ use Rattle.vir_compile.proofs.Meant.{meant, meant-part, meant-seq, meant-met, me
 use Rattle.vir_compile.proofs.CallsMeant.{calls_on, calls_on-seq, calls_on-met, calls_on-unmet}
 use Rattle.vir_compile.proofs.Bounds.{repeated, most_steps}
 use Rattle.vir_compile.proofs.Runs as runs
+
+-- a test of either kind leads to its exit where the loop ends, and calls nothing
+act-test_of : (lines : List Entry) (k : End) (exit : ℕ) (s : State) → act lines (test_of k exit) s ≡ Some (state (if is_end k (set.len s.domain) then exit else s.place + 1) s.domain s.splits s.domains)
+act-test_of lines (exactly k) exit s = refl
+act-test_of lines (at_most k) exit s = refl
+
+called-test_of : (k : End) (exit : ℕ) → called (test_of k exit) ≡ []
+called-test_of (exactly k) exit = refl
+called-test_of (at_most k) exit = refl
 
 module _ (code : List Instr) (lines : List Entry) (depth : ℕ) (whole : Set) where
   -- no set on the way is larger
@@ -54,7 +64,7 @@ module _ (code : List Instr) (lines : List Entry) (depth : ℕ) (whole : Set) wh
   ends_as n most ls ms a b c = runs.ends_as code lines depth whole n most ls ms a b c
 
   -- the turns of a loop, where the body's code leads to its meaning
-  module _ (k : ℕ) (m : Tree) (start turn last : ℕ) (ss : List Split) (ds : List Set) (next : turn + 1 ≡ last) (test_at : slice_get code (start + 1) ≡ Some (LoopTest k last)) (back_at : slice_get code turn ≡ Some (LoopBack (start + 1)))
+  module _ (k : End) (m : Tree) (start turn last : ℕ) (ss : List Split) (ds : List Set) (next : turn + 1 ≡ last) (test_at : slice_get code (start + 1) ≡ Some (test_of k last)) (back_at : slice_get code turn ≡ Some (LoopBack (start + 1)))
       (body : (d : Set) (so_far : Split) → IsPart d whole → Leads (most_steps m size) (calls m d) (state (start + 2) d (so_far ∷ ss) ds) (state turn d (means m d ∷ (so_far ∷ ss)) ds)) (f : length ss + 1 ≤ depth) (g : length ds ≤ depth) (began : (d : Set) → origin d ds ≡ whole) where
     -- the rest of the loop leads to its end, in some domain
     abbrev Turns : ℕ → Split → Type 0
@@ -65,7 +75,7 @@ module _ (code : List Instr) (lines : List Entry) (depth : ℕ) (whole : Set) wh
     over : (so_far : Split) → means (loop k m) so_far.deferred ≡ undecided so_far.deferred → state last so_far.deferred (so_far ∷ ss) ds ≡ state last so_far.deferred (joined so_far (means (loop k m) so_far.deferred) ∷ ss) ds
     over so_far e = ap (λ s. state last so_far.deferred (s ∷ ss) ds) (sym (ap (joined so_far) e ∙ joined-undecided so_far))
 
-    back : (fuel : ℕ) (so_far : Split) → nat_eq (set.len so_far.deferred) k ≡ false → IsPart so_far.deferred whole → ((t : Split) → set.len t.deferred < set.len so_far.deferred → IsPart t.deferred whole → Turns fuel t) → (b : Bool) → set.is_subset so_far.deferred (means m so_far.deferred).deferred ≡ b
+    back : (fuel : ℕ) (so_far : Split) → is_end k (set.len so_far.deferred) ≡ false → IsPart so_far.deferred whole → ((t : Split) → set.len t.deferred < set.len so_far.deferred → IsPart t.deferred whole → Turns fuel t) → (b : Bool) → set.is_subset so_far.deferred (means m so_far.deferred).deferred ≡ b
         → (d : Set) × Leads (1 + repeated fuel (most_steps m size + 2)) (if b then [] else calls (loop k m) (means m so_far.deferred).deferred) (state turn so_far.deferred (means m so_far.deferred ∷ (so_far ∷ ss)) ds) (state last d (joined so_far (means (loop k m) so_far.deferred) ∷ ss) ds)
     back fuel so_far met part again true q =
         let d = so_far.deferred in
@@ -87,26 +97,26 @@ module _ (code : List Instr) (lines : List Entry) (depth : ℕ) (whole : Set) wh
         in
         (rest.0, ends_as _ _ _ _ here _ _ (omega arith) refl (ap (λ s. state last rest.0 (s ∷ ss) ds) all) (onward _ _ [] _ here there _ (step here there (LoopBack (start + 1)) back_at leads (omega arith) g (began _) left) rest.1))
 
-    tested : (fuel : ℕ) (so_far : Split) → IsPart so_far.deferred whole → ((t : Split) → set.len t.deferred < set.len so_far.deferred → IsPart t.deferred whole → Turns fuel t) → (b : Bool) → nat_eq (set.len so_far.deferred) k ≡ b → Turns (suc fuel) so_far
+    tested : (fuel : ℕ) (so_far : Split) → IsPart so_far.deferred whole → ((t : Split) → set.len t.deferred < set.len so_far.deferred → IsPart t.deferred whole → Turns fuel t) → (b : Bool) → is_end k (set.len so_far.deferred) ≡ b → Turns (suc fuel) so_far
     tested fuel so_far part again true q =
         let d = so_far.deferred in
         let here = state (start + 1) d (so_far ∷ ss) ds in
-        let leads = ap (λ b. Some (state (if b then last else start + 1 + 1) d (so_far ∷ ss) ds)) q in
-        (d, ends_as 1 _ [] _ here _ _ (omega arith) (sym (calls_on-met lines k m d q)) (over so_far (meant-met lines k m d q)) (step here (state last d (so_far ∷ ss) ds) (LoopTest k last) test_at leads (omega arith) g (began _) part))
+        let leads = act-test_of lines k last here ∙ ap (λ b. Some (state (if b then last else start + 1 + 1) d (so_far ∷ ss) ds)) q in
+        (d, ends_as 1 _ (called (test_of k last)) _ here _ _ (omega arith) (called-test_of k last ∙ sym (calls_on-met lines k m d q)) (over so_far (meant-met lines k m d q)) (step here (state last d (so_far ∷ ss) ds) (test_of k last) test_at leads (omega arith) g (began _) part))
     tested fuel so_far part again false q =
         let d = so_far.deferred in
         let here = state (start + 1) d (so_far ∷ ss) ds in
         let there = state (start + 1 + 1) d (so_far ∷ ss) ds in
-        let leads = ap (λ b. Some (state (if b then last else start + 1 + 1) d (so_far ∷ ss) ds)) q in
+        let leads = act-test_of lines k last here ∙ ap (λ b. Some (state (if b then last else start + 1 + 1) d (so_far ∷ ss) ds)) q in
         let two : start + 1 + 1 ≡ start + 2 = omega arith in
-        let first = ends_as 1 1 [] [] here there _ (omega arith) refl (ap (λ n. state n d (so_far ∷ ss) ds) two) (step here there (LoopTest k last) test_at leads (omega arith) g (began _) part) in
+        let first = ends_as 1 1 (called (test_of k last)) [] here there _ (omega arith) (called-test_of k last) (ap (λ n. state n d (so_far ∷ ss) ds) two) (step here there (test_of k last) test_at leads (omega arith) g (began _) part) in
         let rest = back fuel so_far q part again (set.is_subset d (means m d).deferred) refl in
         (rest.0, ends_as _ _ _ _ here _ _ (omega arith) (sym (calls_on-unmet lines k m d q)) refl (onward _ _ [] _ here _ _ first (onward _ _ _ _ _ _ _ (body d so_far part) rest.1)))
 
     pub turns : (fuel : ℕ) (so_far : Split) → set.len so_far.deferred < fuel → IsPart so_far.deferred whole → Turns fuel so_far
     turns zero so_far few part = absurd (omega arith)
     turns (suc fuel) so_far few part =
-        tested fuel so_far part (λ t fewer left. turns fuel t (omega arith) left) (nat_eq (set.len so_far.deferred) k) refl
+        tested fuel so_far part (λ t fewer left. turns fuel t (omega arith) left) (is_end k (set.len so_far.deferred)) refl
 
   -- the code of a part leads to its end, where it leads past its last instruction
   part : (end start : ℕ) (t : Tree) (d : Set) (ss : List Split) (ds : List Set) → EndsAt code end start t → ((last : ℕ) → Ending code last start t → Leads (most_steps t size) (calls t d) (state start d ss ds) (state (last + 1) d (means t d ∷ ss) ds)) → Leads (most_steps t size) (calls t d) (state start d ss ds) (state end d (means t d ∷ ss) ds)

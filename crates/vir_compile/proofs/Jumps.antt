@@ -1,16 +1,17 @@
 -- The jumps of a term's code lead to positions within it.
 use Rattle.std.proofs.Common.{◌≡◌, ℕ, zero, suc, ◌+◌, ◌<◌, ◌≤◌, List, [], ◌∷◌, ◌++◌, length, Some, subst, arith}
 use Rattle.std.specs.Prelude.{⊤, slice_get}
-use Rattle.vir_term.specs.Tree.{Tree, leaf, rev, seq, par, loop}
+use Rattle.vir_term.specs.Tree.{Tree, leaf, rev, seq, par, loop, End, exactly, at_most}
 use Rattle.vir_code.specs.declared.instr.Instr.{Instr}
-use Rattle.vir_code.specs.declared.instr.Instr.TheVariants.{KeepDomain, FetchDomain, JoinSeq, JoinMax, Revise, LoopTest, LoopBack, EndLoop}
-use Rattle.vir_code.specs.Code.{width, code_at, code_of}
+use Rattle.vir_code.specs.declared.instr.Instr.TheVariants.{KeepDomain, FetchDomain, JoinSeq, JoinMax, Revise, LoopTest, UntilTest, LoopBack, EndLoop}
+use Rattle.vir_code.specs.Code.{test_of, width, code_at, code_of}
 use Rattle.vir_code.proofs.Unique.{length-code_at}
 use Rattle.vir_compile.specs.Laws.{JumpsStayWithin}
 
 -- a jump, if it is one, leads below a position
 abbrev Below : ℕ → Instr → Type 0
 Below end (LoopTest k exit) = exit < end
+Below end (UntilTest k exit) = exit < end
 Below end (LoopBack start) = start < end
 Below end _ = ⊤
 
@@ -21,6 +22,10 @@ AllBelow end (i ∷ is) = Below end i × AllBelow end is
 both : (end : ℕ) (a b : List Instr) → AllBelow end a → AllBelow end b → AllBelow end (a ++ b)
 both end [] b g h = h
 both end (i ∷ a) b g h = (g.0, both end a b g.1 h)
+
+below_test : (end exit : ℕ) (k : End) → exit < end → Below end (test_of k exit)
+below_test end exit (exactly k) less = less
+below_test end exit (at_most k) less = less
 
 -- the jumps of the code of a term
 all_below : (p end : ℕ) (t : Tree) → p + width t ≤ end → AllBelow end (code_at p t)
@@ -34,7 +39,7 @@ all_below p end (par m n) le =
     let b = code_at (p + width m) n in
     both end (code_at p m) (b ++ JoinMax ∷ []) (all_below p end m (omega arith)) (both end b (JoinMax ∷ []) (all_below (p + width m) end n (omega arith)) (tt, tt))
 all_below p end (loop k m) le =
-    (tt, (omega arith, both end (code_at (p + 2) m) (LoopBack (p + 1) ∷ (EndLoop ∷ [])) (all_below (p + 2) end m (omega arith)) (omega arith, (tt, tt))))
+    (tt, (below_test end (p + 2 + width m + 1) k (omega arith), both end (code_at (p + 2) m) (LoopBack (p + 1) ∷ (EndLoop ∷ [])) (all_below (p + 2) end m (omega arith)) (omega arith, (tt, tt))))
 
 at_place : (end : ℕ) (code : List Instr) (i : ℕ) (x : Instr) → AllBelow end code → slice_get code i ≡ Some x → Below end x
 at_place end [] i x h e = cc
@@ -46,5 +51,6 @@ within t =
     let all = all_below 0 (length (code_of t)) t (omega (arith, length-code_at 0 t)) in
     record {
       exits = λ i k exit at. at_place (length (code_of t)) (code_of t) i (LoopTest k exit) all at;
+      until_exits = λ i k exit at. at_place (length (code_of t)) (code_of t) i (UntilTest k exit) all at;
       starts = λ i start at. at_place (length (code_of t)) (code_of t) i (LoopBack start) all at;
     }

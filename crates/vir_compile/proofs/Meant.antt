@@ -1,5 +1,5 @@
 -- The meaning on a set, by the meanings of the parts of the term.
-use Rattle.std.proofs.Common.{◌≡◌, ℕ, zero, suc, ◌<◌, ◌≤◌, Bool, true, false, ◌||◌, List, if◌then◌else◌, nat_eq, refl, sym, ap, ◌∙◌, arith}
+use Rattle.std.proofs.Common.{◌≡◌, ℕ, zero, suc, ◌<◌, ◌≤◌, Bool, true, false, ◌||◌, List, if◌then◌else◌, refl, sym, ap, ◌∙◌, arith}
 use Rattle.std.specs.FinSet as set
 use Rattle.vir_altset.specs.Sets.{Set, IsPart}
 use Rattle.vir_altset.specs.Splits.{IsSplitOf}
@@ -10,14 +10,14 @@ use Rattle.vir_profile.specs.Profiles.{restrict}
 use Rattle.vir_term.specs.declared.leaf.Leaf.{Leaf}
 use Rattle.vir_term.specs.declared.leaf.Leaf.TheVariants as leaves
 use Rattle.vir_term.specs.declared.score.Score.{Score}
-use Rattle.vir_term.specs.Tree.{Tree, leaf, rev, seq, par, loop}
+use Rattle.vir_term.specs.Tree.{Tree, leaf, rev, seq, par, loop, End}
 use Rattle.vir_mean.specs.declared.elimination.Elimination.{Elimination}
 use Rattle.vir_mean.specs.declared.elimination.Elimination.TheVariants.{Max, Min, Below, Upto}
 use Rattle.vir_mean.specs.Scores.{score}
 use Rattle.vir_mean.specs.Eliminators.{goes, eliminated, eliminator}
 use Rattle.vir_mean.specs.FixedOrders.{is_among_first}
 use Rattle.vir_mean.specs.Modules.{Meaning, leaf_mean}
-use Rattle.vir_mean.specs.Compositions.{joined, turns}
+use Rattle.vir_mean.specs.Compositions.{is_end, joined, turns}
 use Rattle.vir_mean.specs.Meaning.{mean}
 use Rattle.vir_compile.specs.Exec.{undecided}
 use Rattle.vir_compile.proofs.Sets.{part_less, restrict_restrict}
@@ -47,13 +47,13 @@ leaf_mean-split (leaves.Below s) a p = eliminator_split Below s a p
 leaf_mean-split (leaves.Upto s) a p = eliminator_split Upto s a p
 
 -- the turns of a loop over a meaning that splits each set
-module _ (k : ℕ) (m : Meaning) (splits : (a : Set) (p : List Entry) → IsSplitOf a (m a p)) where
+module _ (k : End) (m : Meaning) (splits : (a : Set) (p : List Entry) → IsSplitOf a (m a p)) where
   pub turns-split : (n : ℕ) (a : Set) (p : List Entry) → IsSplitOf a (turns n k m a p)
   unfolding turns
   turns-split zero a p = deferred_split a
   turns-split (suc n) a p =
       let d = (m a p).deferred in
-      either_split a (nat_eq (set.len a) k || set.is_subset a d) _ _ (deferred_split a)
+      either_split a (is_end k (set.len a) || set.is_subset a d) _ _ (deferred_split a)
       (join_split a (m a p) (turns n k m d (restrict d p)) (splits a p) (turns-split n d (restrict d p)))
 
   -- what is left by a turn that goes on is less
@@ -62,7 +62,7 @@ module _ (k : ℕ) (m : Meaning) (splits : (a : Set) (p : List Entry) → IsSpli
 
   none_left : (n : ℕ) (a : Set) (p : List Entry) → set.len a ≡ 0 → undecided a ≡ turns (suc n) k m a p
   unfolding turns
-  none_left n a p e = pick (nat_eq (set.len a) k) (set.is_subset a (m a p).deferred) refl
+  none_left n a p e = pick (is_end k (set.len a)) (set.is_subset a (m a p).deferred) refl
     where
       pick : (b c : Bool) → set.is_subset a (m a p).deferred ≡ c → undecided a ≡ (if b || c then undecided a else joined (m a p) (turns n k m (m a p).deferred (restrict (m a p).deferred p)))
       pick true c h = refl
@@ -76,7 +76,7 @@ module _ (k : ℕ) (m : Meaning) (splits : (a : Set) (p : List Entry) → IsSpli
   enough_turns zero (suc n') a p f g = none_left n' a p (omega arith)
   enough_turns (suc n) zero a p f g = sym (none_left n a p (omega arith))
   enough_turns (suc n) (suc n') a p f g =
-      pick (λ few. enough_turns n n' (m a p).deferred (restrict (m a p).deferred p) (omega arith) (omega arith)) (nat_eq (set.len a) k) (set.is_subset a (m a p).deferred) refl
+      pick (λ few. enough_turns n n' (m a p).deferred (restrict (m a p).deferred p) (omega arith) (omega arith)) (is_end k (set.len a)) (set.is_subset a (m a p).deferred) refl
     where
       pick : (set.len (m a p).deferred < set.len a → turns n k m (m a p).deferred (restrict (m a p).deferred p) ≡ turns n' k m (m a p).deferred (restrict (m a p).deferred p))
           → (b c : Bool) → set.is_subset a (m a p).deferred ≡ c
@@ -87,25 +87,25 @@ module _ (k : ℕ) (m : Meaning) (splits : (a : Set) (p : List Entry) → IsSpli
       pick again false false h = ap (joined (m a p)) (again (less a p h))
 
   -- one turn by hand
-  one_turn : (a : Set) (p : List Entry) → turns (set.len a) k m a p ≡ (if nat_eq (set.len a) k || set.is_subset a (m a p).deferred then undecided a else joined (m a p) (turns (set.len a) k m (m a p).deferred (restrict (m a p).deferred p)))
+  one_turn : (a : Set) (p : List Entry) → turns (set.len a) k m a p ≡ (if is_end k (set.len a) || set.is_subset a (m a p).deferred then undecided a else joined (m a p) (turns (set.len a) k m (m a p).deferred (restrict (m a p).deferred p)))
   unfolding turns
   one_turn a p = enough_turns (set.len a) (suc (set.len a)) a p (omega arith) (omega arith)
 
   -- a loop whose number is met
-  pub turns-met : (a : Set) (p : List Entry) → nat_eq (set.len a) k ≡ true → turns (set.len a) k m a p ≡ undecided a
+  pub turns-met : (a : Set) (p : List Entry) → is_end k (set.len a) ≡ true → turns (set.len a) k m a p ≡ undecided a
   turns-met a p met =
       one_turn a p
       ∙ ap (λ b. if b || set.is_subset a (m a p).deferred then undecided a else joined (m a p) (turns (set.len a) k m (m a p).deferred (restrict (m a p).deferred p))) met
 
   -- a loop whose body defers all
-  pub turns-idle : (a : Set) (p : List Entry) → nat_eq (set.len a) k ≡ false → set.is_subset a (m a p).deferred ≡ true → turns (set.len a) k m a p ≡ undecided a
+  pub turns-idle : (a : Set) (p : List Entry) → is_end k (set.len a) ≡ false → set.is_subset a (m a p).deferred ≡ true → turns (set.len a) k m a p ≡ undecided a
   turns-idle a p met idle =
       one_turn a p
       ∙ ap (λ b. if b || set.is_subset a (m a p).deferred then undecided a else joined (m a p) (turns (set.len a) k m (m a p).deferred (restrict (m a p).deferred p))) met
       ∙ ap (λ b. if b then undecided a else joined (m a p) (turns (set.len a) k m (m a p).deferred (restrict (m a p).deferred p))) idle
 
   -- a loop that goes on
-  pub turns-on : (a : Set) (p : List Entry) → nat_eq (set.len a) k ≡ false → set.is_subset a (m a p).deferred ≡ false
+  pub turns-on : (a : Set) (p : List Entry) → is_end k (set.len a) ≡ false → set.is_subset a (m a p).deferred ≡ false
       → turns (set.len a) k m a p ≡ joined (m a p) (turns (set.len (m a p).deferred) k m (m a p).deferred (restrict (m a p).deferred p))
   turns-on a p met idle =
       let few = less a p idle in
@@ -139,14 +139,14 @@ module _ (lines : List Entry) where
   pub meant-seq : (m n : Tree) (a : Set) → meant (seq m n) a ≡ joined (meant m a) (meant n (meant m a).deferred)
   meant-seq m n a = ap (joined (meant m a)) (again n m a)
 
-  module _ (k : ℕ) (m : Tree) (a : Set) where
-    pub meant-met : nat_eq (set.len a) k ≡ true → meant (loop k m) a ≡ undecided a
+  module _ (k : End) (m : Tree) (a : Set) where
+    pub meant-met : is_end k (set.len a) ≡ true → meant (loop k m) a ≡ undecided a
     meant-met met = turns-met k (mean m) (mean-split m) a (restrict a lines) met
 
-    pub meant-idle : nat_eq (set.len a) k ≡ false → set.is_subset a (meant m a).deferred ≡ true → meant (loop k m) a ≡ undecided a
+    pub meant-idle : is_end k (set.len a) ≡ false → set.is_subset a (meant m a).deferred ≡ true → meant (loop k m) a ≡ undecided a
     meant-idle met idle = turns-idle k (mean m) (mean-split m) a (restrict a lines) met idle
 
-    pub meant-on : nat_eq (set.len a) k ≡ false → set.is_subset a (meant m a).deferred ≡ false → meant (loop k m) a ≡ joined (meant m a) (meant (loop k m) (meant m a).deferred)
+    pub meant-on : is_end k (set.len a) ≡ false → set.is_subset a (meant m a).deferred ≡ false → meant (loop k m) a ≡ joined (meant m a) (meant (loop k m) (meant m a).deferred)
     meant-on met idle =
         turns-on k (mean m) (mean-split m) a (restrict a lines) met idle
         ∙ ap (joined (meant m a)) (again (loop k m) m a)

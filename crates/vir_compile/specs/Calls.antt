@@ -1,14 +1,15 @@
 -- Which modules are called: by the meaning of a term, and by a run of code. They stand in the order of their calls.
-use Rattle.std.specs.Prelude.{ℕ, zero, suc, nat_eq, if◌then◌else◌, List, [], ◌∷◌, ◌++◌, Option, Some, None, length, slice_get}
+use Rattle.std.specs.Prelude.{ℕ, zero, suc, if◌then◌else◌, List, [], ◌∷◌, ◌++◌, Option, Some, None, length, slice_get}
 use Rattle.std.specs.FinSet as set
 use Rattle.vir_altset.specs.Sets.{Set}
 use Rattle.vir_profile.specs.declared.ballot.Entry.{Entry}
 use Rattle.vir_profile.specs.Profiles.{restrict}
 use Rattle.vir_term.specs.declared.leaf.Leaf.{Leaf}
-use Rattle.vir_term.specs.Tree.{Tree, leaf, rev, seq, par, loop}
+use Rattle.vir_term.specs.Tree.{Tree, leaf, rev, seq, par, loop, End}
 use Rattle.vir_code.specs.declared.instr.Instr.{Instr}
 use Rattle.vir_code.specs.declared.instr.Instr.TheVariants.{Call}
 use Rattle.vir_mean.specs.Modules.{Meaning}
+use Rattle.vir_mean.specs.Compositions.{is_end}
 use Rattle.vir_mean.specs.Meaning.{mean}
 use Rattle.vir_compile.specs.Exec.{State, act}
 use Rattle.vir_compile.specs.StepsLeft.{origin, steps_bound}
@@ -18,10 +19,10 @@ abbrev pub Calls : Type 0
 Calls = Set → List Entry → List Leaf
 
 -- by a loop of at most so many turns
-unfoldable pub turns_calls : ℕ → ℕ → Meaning → Calls → Calls
+unfoldable pub turns_calls : ℕ → End → Meaning → Calls → Calls
 turns_calls zero k body calls a lines = []
 turns_calls (suc most) k body calls a lines =
-    if nat_eq (set.len a) k
+    if is_end k (set.len a)
     then []
     else (calls a lines
     ++ (if set.is_subset a (body a lines).deferred

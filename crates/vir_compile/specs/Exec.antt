@@ -1,12 +1,12 @@
 -- What the machine does: the steps of code, and its run from the start to its end.
-use Rattle.std.specs.Prelude.{◌≡◌, ℕ, zero, suc, ◌+◌, nat_eq, List, [], ◌∷◌, length, Option, Some, None, slice_get, if◌then◌else◌}
+use Rattle.std.specs.Prelude.{◌≡◌, ℕ, zero, suc, ◌+◌, nat_eq, nat_le, List, [], ◌∷◌, length, Option, Some, None, slice_get, if◌then◌else◌}
 use Rattle.std.specs.FinSet as set
 use Rattle.vir_altset.specs.Sets.{Set}
 use Rattle.vir_altset.specs.declared.split.Split.{Split}
 use Rattle.vir_profile.specs.declared.ballot.Entry.{Entry}
 use Rattle.vir_profile.specs.Profiles.{restrict}
 use Rattle.vir_code.specs.declared.instr.Instr.{Instr}
-use Rattle.vir_code.specs.declared.instr.Instr.TheVariants.{Call, KeepDomain, FetchDomain, JoinSeq, JoinMax, Revise, StartLoop, LoopTest, LoopBack, EndLoop}
+use Rattle.vir_code.specs.declared.instr.Instr.TheVariants.{Call, KeepDomain, FetchDomain, JoinSeq, JoinMax, Revise, StartLoop, LoopTest, UntilTest, LoopBack, EndLoop}
 use Rattle.vir_mean.specs.Modules.{leaf_mean}
 use Rattle.vir_mean.specs.Compositions.{joined, merged}
 
@@ -77,6 +77,8 @@ act lines Revise s = turned_round s s.splits
 act lines StartLoop s = Some (state (s.place + 1) s.domain (undecided s.domain ∷ s.splits) (s.domain ∷ s.domains))
 act lines (LoopTest k exit) s =
     Some (state (if nat_eq (set.len s.domain) k then exit else s.place + 1) s.domain s.splits s.domains)
+act lines (UntilTest k exit) s =
+    Some (state (if nat_le (set.len s.domain) k then exit else s.place + 1) s.domain s.splits s.domains)
 act lines (LoopBack start) s = turn_joined start s s.splits
 act lines EndLoop s = ended s s.domains
 

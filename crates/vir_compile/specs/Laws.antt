@@ -6,7 +6,7 @@ use Rattle.vir_profile.specs.declared.ballot.Entry.{Entry}
 use Rattle.vir_profile.specs.Profiles.{IsProfileOn, restrict}
 use Rattle.vir_term.specs.Tree.{Tree}
 use Rattle.vir_code.specs.declared.instr.Instr.{Instr}
-use Rattle.vir_code.specs.declared.instr.Instr.TheVariants.{LoopTest, LoopBack}
+use Rattle.vir_code.specs.declared.instr.Instr.TheVariants.{LoopTest, UntilTest, LoopBack}
 use Rattle.vir_code.specs.Code.{code_of}
 use Rattle.vir_code.specs.Depth.{depth_of}
 use Rattle.vir_mean.specs.Meaning.{mean}
@@ -58,6 +58,7 @@ StepsLeftAreExact =
 -- Each jump of a term's code leads to a position within it.
 pub record AreJumpsWithin (code : List Instr) : Type 0 where
   pub exits : (i k exit : ℕ) → slice_get code i ≡ Some (LoopTest k exit) → exit < length code
+  pub until_exits : (i k exit : ℕ) → slice_get code i ≡ Some (UntilTest k exit) → exit < length code
   pub starts : (i start : ℕ) → slice_get code i ≡ Some (LoopBack start) → start < length code
 
 -- No jump of a term's code leads past it.

@@ -1,3 +1,4 @@
+pub mod Endings
 pub mod Exec
 pub mod StepsLeft
 pub mod Calls

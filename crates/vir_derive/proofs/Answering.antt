@@ -90,7 +90,7 @@ reasons_with i rule c reasons others found line h e m u f r =
       some_none h = cc
 
 -- the reasons of all rules
-pub all_reasons : (i : ℕ) (c : Claim) (reasons : List Reason) → i ≡ 82 → AreReasonsUpTo i c reasons → AreReasons c reasons
+pub all_reasons : (i : ℕ) (c : Claim) (reasons : List Reason) → i ≡ 95 → AreReasonsUpTo i c reasons → AreReasons c reasons
 all_reasons i c reasons e r = subst (λ n. AreReasonsUpTo n c reasons) (e ∙ sym table_size) r
 
 decided_by_answer : (answer : Either Derivation Why) (c : Claim) → Answers answer c → (is_left answer ≡ true) ↔ Derivable c

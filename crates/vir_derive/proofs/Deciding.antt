@@ -50,13 +50,13 @@ module _ (c : Claim) (decided : (premise : Claim) → measure premise < measure 
   up_to zero = inr (λ rule l. fails_at_zero rule c l)
   up_to (suc m) = one_more m (up_to m) (by_rule (suc m) (premises (suc m) c) refl)
 
-  by_all_rules : Derivable c ⊎ ((rule : ℕ) → rule ≤ 82 → Fails rule c) → Decided c
+  by_all_rules : Derivable c ⊎ ((rule : ℕ) → rule ≤ 95 → Fails rule c) → Decided c
   by_all_rules (inl d) = inl d
   by_all_rules (inr fails) = inr (underivable c fails)
 
 decided_below : (n : ℕ) (c : Claim) → measure c < n → Decided c
 decided_below zero c l = absurd (omega arith)
-decided_below (suc n) c l = by_all_rules c (λ premise k. decided_below n premise (omega (arith, k, l))) (up_to c (λ premise k. decided_below n premise (omega (arith, k, l))) 82)
+decided_below (suc n) c l = by_all_rules c (λ premise k. decided_below n premise (omega (arith, k, l))) (up_to c (λ premise k. decided_below n premise (omega (arith, k, l))) 95)
 
 pub decide : (c : Claim) → Decided c
 decide c = decided_below (measure c + 1) c (omega arith)

@@ -28,7 +28,7 @@ pub record IsServed (c : Claim) : Type 0 where
   pub rule : ℕ
   pub needed : List Claim
   pub least : 1 ≤ rule
-  pub greatest : rule ≤ 82
+  pub greatest : rule ≤ 95
   pub premises_are : premises rule c ≡ Some needed
   pub derivable : AllDerivable needed
 
@@ -59,7 +59,7 @@ pub fails_at : (rule : ℕ) (c : Claim) (needed : List Claim) (i : ℕ) (premise
 fails_at rule c needed i premise e h n = fails_if_not_all rule c needed e (λ a. n (nth_derivable needed i premise h a))
 
 -- where all rules of the table fail, nothing derives
-pub underivable : (c : Claim) → ((rule : ℕ) → rule ≤ 82 → Fails rule c) → Derivable c → ⊥
+pub underivable : (c : Claim) → ((rule : ℕ) → rule ≤ 95 → Fails rule c) → Derivable c → ⊥
 underivable c f d = let s = served c d in not_all_if_fails s.rule c s.needed s.premises_are (f s.rule s.greatest) s.derivable
 
 none_serves : (c : Claim) (o : Option (List Claim)) → premises 0 c ≡ o → Fails 0 c

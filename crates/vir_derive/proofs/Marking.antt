@@ -1,8 +1,8 @@
 -- The marks of a term from those of its parts.
-use Rattle.std.proofs.Common.{◌≡◌, ◌⊎◌, inl, inr, ℕ, IfOk, Bool, true, false, Option, Some, refl, sym, ◌∙◌, ap, subst}
+use Rattle.std.proofs.Common.{◌≡◌, ◌⊎◌, inl, inr, IfOk, Bool, true, false, Option, Some, refl, sym, ◌∙◌, ap, subst}
 use Rattle.vir_term.specs.declared.leaf.Leaf.TheVariants.{PassFirst, DropFirst}
 use Rattle.vir_term.specs.declared.leaf.Leaf.{Leaf as Module}
-use Rattle.vir_term.specs.Tree.{Tree, leaf, rev, seq, par, loop}
+use Rattle.vir_term.specs.Tree.{Tree, leaf, rev, seq, par, loop, End}
 use Rattle.vir_rules.specs.Forms.{Form, form_of, first_part, second_part}
 use Rattle.std.specs.declared.result.Result.{Result}
 use Rattle.std.specs.declared.result.Result.TheVariants.{Ok, Err}
@@ -78,13 +78,13 @@ then_ok : {E : Type 0} (P Q : Marks → Type 0) (r : Result Marks E) → IfOk r 
 then_ok P Q (Ok m) h f = f m h
 then_ok P Q (Err e) h f = tt
 
-rev_or_loop_marked : (t m : Tree) (form : Form) (part marks : Marks) → form ≡ form_of t → (t ≡ rev m) ⊎ ((k : ℕ) × (t ≡ loop k m)) → JoinsOne form part marks → AreMarks part m → AreMarks marks t
+rev_or_loop_marked : (t m : Tree) (form : Form) (part marks : Marks) → form ≡ form_of t → (t ≡ rev m) ⊎ ((k : End) × (t ≡ loop k m)) → JoinsOne form part marks → AreMarks part m → AreMarks marks t
 rev_or_loop_marked t m form part marks f e join a = elim e [
   | inl is ↦ join t (sym f) (ap has_one_part (f ∙ ap form_of is)) (subst (AreMarks part) (sym (ap first_part is)) a)
   | inr is ↦ join t (sym f) (ap has_one_part (f ∙ ap form_of is.1)) (subst (AreMarks part) (sym (ap first_part is.1)) a)
 ]
 
-pub rev_or_loop : {E : Type 0} (r : Result Marks E) (t m : Tree) (form : Form) (part : Marks) → form ≡ form_of t → (t ≡ rev m) ⊎ ((k : ℕ) × (t ≡ loop k m)) → IfOk r (JoinsOne form part) → AreMarks part m →
+pub rev_or_loop : {E : Type 0} (r : Result Marks E) (t m : Tree) (form : Form) (part : Marks) → form ≡ form_of t → (t ≡ rev m) ⊎ ((k : End) × (t ≡ loop k m)) → IfOk r (JoinsOne form part) → AreMarks part m →
     IfOk r (λ marks. AreMarks marks t)
 rev_or_loop r t m form part f e joins a = then_ok (JoinsOne form part) (λ marks. AreMarks marks t) r joins (λ marks join. rev_or_loop_marked t m form part marks f e join a)
 

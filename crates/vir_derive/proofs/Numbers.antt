@@ -5,7 +5,7 @@ use Rattle.std.proofs.lemmas.Bool.{eqb-true, eq-eqb}
 use Rattle.vir_term.specs.declared.leaf.Leaf.TheVariants.{PassFirst, DropFirst}
 use Rattle.vir_term.specs.declared.prop.Prop.{Prop}
 use Rattle.vir_term.specs.declared.prop.Prop.TheVariants.{Defers, Rejects, Elim}
-use Rattle.vir_term.specs.Tree.{Tree}
+use Rattle.vir_term.specs.Tree.{Tree, exactly, at_most}
 use Rattle.vir_rules.specs.declared.row.Conclusion.{Conclusion}
 use Rattle.vir_rules.specs.declared.row.Conclusion.TheVariants.{Has, Apart}
 use Rattle.vir_rules.specs.declared.row.Need.{Need}
@@ -34,6 +34,7 @@ asks_first _ = false
 defers_tied : Shape → List Need → Bool
 defers_tied shape.PassK needs = true
 defers_tied shape.LoopK needs = true
+defers_tied shape.UntilK needs = true
 defers_tied shape.Seq needs = asks_first needs
 defers_tied _ needs = false
 
@@ -95,10 +96,12 @@ tied_number : (t : Tree) (k : ℕ) (other : Option ℕ) → KnowsFirst t k other
     AllDerivable (map (filled (letters_of t k)) needs) → defers_candidate form other ≡ Some k
 unfolding defers_tied
 tied_number t k other known shape.PassK (leaf (PassFirst j order)) needs e a h d = ap Some (eqb-true j k h)
-tied_number t k other known shape.LoopK (loop j) needs e a h d = ap Some (eqb-true j k h)
+tied_number t k other known shape.LoopK (loop (exactly j)) needs e a h d = ap Some (eqb-true j k h)
+tied_number t k other known shape.UntilK (loop (at_most j)) needs e a h d = ap Some (eqb-true j k h)
 tied_number t k other known shape.Seq seq needs e a h d = first_asked t k other known e needs a d
 tied_number t k other known shape.PassK _ needs e a h d = no_true h
 tied_number t k other known shape.LoopK _ needs e a h d = no_true h
+tied_number t k other known shape.UntilK _ needs e a h d = no_true h
 tied_number t k other known shape.Seq _ needs e a h d = no_true h
 tied_number t k other known _ form needs e a h d = no_true a
 

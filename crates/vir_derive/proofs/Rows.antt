@@ -18,22 +18,22 @@ use Rattle.vir_rules.specs.Table.{Rule, table}
 pub no_true : {A : Type 0} → false ≡ true → A
 no_true h = cc
 
-pub table_size : length table ≡ 82
+pub table_size : length table ≡ 95
 unfolding table
 table_size = refl
 
-within : (rule n : ℕ) → (nat_lt 0 rule && nat_le rule n) ≡ true → n ≡ 82 → (1 ≤ rule) × (rule ≤ 82)
+within : (rule n : ℕ) → (nat_lt 0 rule && nat_le rule n) ≡ true → n ≡ 95 → (1 ≤ rule) × (rule ≤ 95)
 within rule n h e = (grind (arith, nat_tests), grind (arith, nat_tests))
 
-inside : (rule n : ℕ) → 1 ≤ rule → rule ≤ 82 → n ≡ 82 → (nat_lt 0 rule && nat_le rule n) ≡ true
+inside : (rule n : ℕ) → 1 ≤ rule → rule ≤ 95 → n ≡ 95 → (nat_lt 0 rule && nat_le rule n) ≡ true
 inside rule n h k e = grind (arith, nat_tests)
 
 -- the numbers of rules
-pub rule_range : (rule : ℕ) → is_rule rule ≡ true → (1 ≤ rule) × (rule ≤ 82)
+pub rule_range : (rule : ℕ) → is_rule rule ≡ true → (1 ≤ rule) × (rule ≤ 95)
 unfolding is_rule
 rule_range rule h = within rule (length table) h table_size
 
-pub rule_in_range : (rule : ℕ) → 1 ≤ rule → rule ≤ 82 → is_rule rule ≡ true
+pub rule_in_range : (rule : ℕ) → 1 ≤ rule → rule ≤ 95 → is_rule rule ≡ true
 unfolding is_rule
 rule_in_range rule h k = inside rule (length table) h k table_size
 
@@ -42,12 +42,12 @@ guarded true o x h = refl
 guarded false o x h = cc
 
 -- only a rule of the table fits a claim
-pub is_in_table : (rule : ℕ) (c : Claim) (needed : List Claim) → premises rule c ≡ Some needed → (1 ≤ rule) × (rule ≤ 82)
+pub is_in_table : (rule : ℕ) (c : Claim) (needed : List Claim) → premises rule c ≡ Some needed → (1 ≤ rule) × (rule ≤ 95)
 unfolding premises
 is_in_table rule c needed h = rule_range rule (guarded (is_rule rule) (premises_by (row_of rule) c) needed h)
 
 -- the premises of a rule of the table are those of its row
-pub premises_of_rule : (rule : ℕ) (c : Claim) → 1 ≤ rule → rule ≤ 82 → premises rule c ≡ premises_by (row_of rule) c
+pub premises_of_rule : (rule : ℕ) (c : Claim) → 1 ≤ rule → rule ≤ 95 → premises rule c ≡ premises_by (row_of rule) c
 unfolding premises
 premises_of_rule rule c h k = rw (rule_in_range rule h k) refl
 
@@ -57,7 +57,7 @@ passes_at test (row ∷ rows) zero l h = (and_parts (test row) (list_all test ro
 passes_at test (row ∷ rows) (suc i) l h = passes_at test rows i (omega (arith, l)) (and_parts (test row) (list_all test rows) h).1
 
 -- a test that each row of the table passes is passed by the row of each rule
-pub row_passes : (test : Rule → Bool) (rule : ℕ) → 1 ≤ rule → rule ≤ 82 → list_all test table ≡ true → test (row_of rule) ≡ true
+pub row_passes : (test : Rule → Bool) (rule : ℕ) → 1 ≤ rule → rule ≤ 95 → list_all test table ≡ true → test (row_of rule) ≡ true
 unfolding row_of
 row_passes test zero l k h = absurd (omega arith)
 row_passes test (suc i) l k h = passes_at test table i (omega (arith, k, table_size)) h

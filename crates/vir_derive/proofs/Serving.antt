@@ -59,10 +59,10 @@ chosen true n rule h = (cc, refl)
 chosen false n rule h = cc
 
 -- the rule in a place
-pub rule_at : (i rule : ℕ) → Some rule ≡ (if nat_lt i 82 then Some (i + 1) else None) → rule ≡ i + 1
-rule_at i rule h = (chosen (nat_lt i 82) (i + 1) rule h).0
+pub rule_at : (i rule : ℕ) → Some rule ≡ (if nat_lt i 95 then Some (i + 1) else None) → rule ≡ i + 1
+rule_at i rule h = (chosen (nat_lt i 95) (i + 1) rule h).0
 
-pub is_rule_at : (i rule : ℕ) → i < 82 → Some rule ≡ (if nat_lt i 82 then Some (i + 1) else None) → is_rule rule ≡ true
+pub is_rule_at : (i rule : ℕ) → i < 95 → Some rule ≡ (if nat_lt i 95 then Some (i + 1) else None) → is_rule rule ≡ true
 is_rule_at i rule l h = let e = rule_at i rule h in rule_in_range rule (omega arith) (omega arith)
 
 -- one rule more fails

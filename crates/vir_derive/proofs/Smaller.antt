@@ -3,7 +3,7 @@ use Rattle.std.proofs.Common.{◌≡◌, ℕ, zero, suc, ◌+◌, ◌*◌, ◌<�
 use Rattle.std.specs.List.{list_all}
 use Rattle.std.proofs.lemmas.Bool.{and_parts, ltb-true, eqb-true}
 use Rattle.vir_term.specs.declared.prop.Prop.{Prop}
-use Rattle.vir_term.specs.declared.prop.Prop.TheVariants.{Ne, Ea, El, Defers, Rejects, Elim, Nb, Decr, Dli, Imono, Dimono, Dmono, Mono, Cc, Dcc, Cprog, Ccomp}
+use Rattle.vir_term.specs.declared.prop.Prop.TheVariants.{Ne, Ea, El, Defers, Rejects, Elim, Nb, Decr, Dli, Imono, Dimono, Dmono, Mono, Cc, Dcc, Cprog, Ccomp, Neut}
 use Rattle.vir_term.specs.Tree.{Tree, size}
 use Rattle.vir_term.specs.Tree as tree
 use Rattle.vir_rules.specs.declared.row.Conclusion.{Conclusion}
@@ -32,6 +32,9 @@ composed_shape shape.Par = true
 composed_shape shape.Loop = true
 composed_shape shape.LoopK = true
 composed_shape shape.LoopOne = true
+composed_shape shape.Until = true
+composed_shape shape.UntilK = true
+composed_shape shape.UntilOne = true
 composed_shape _ = false
 
 forked_shape : Shape → Bool
@@ -52,6 +55,9 @@ composed_if_shaped shape.Par k par h c = refl
 composed_if_shaped shape.Loop k (loop j) h c = refl
 composed_if_shaped shape.LoopK k (loop j) h c = refl
 composed_if_shaped shape.LoopOne k (loop j) h c = refl
+composed_if_shaped shape.Until k (loop j) h c = refl
+composed_if_shaped shape.UntilK k (loop j) h c = refl
+composed_if_shaped shape.UntilOne k (loop j) h c = refl
 composed_if_shaped _ k _ h c = cc
 
 forked_if_shaped : (s : Shape) (k : ℕ) (form : Form) → is_shaped s k form ≡ true → forked_shape s ≡ true → is_forked form ≡ true
@@ -86,7 +92,7 @@ nth_passes test [] i x e h = cc
 nth_passes test (y ∷ ys) zero x e h = let s : y ≡ x = cc in subst (λ z. test z ≡ true) s (and_parts (test y) (list_all test ys) h).0
 nth_passes test (y ∷ ys) (suc i) x e h = nth_passes test ys i x e (and_parts (test y) (list_all test ys) h).1
 
-need_falls : (rule : ℕ) (i : ℕ) (need : Need) → 1 ≤ rule → rule ≤ 82 → slice_get (row_of rule).premises i ≡ Some need → falls (row_of rule).conclusion need ≡ true
+need_falls : (rule : ℕ) (i : ℕ) (need : Need) → 1 ≤ rule → rule ≤ 95 → slice_get (row_of rule).premises i ≡ Some need → falls (row_of rule).conclusion need ≡ true
 unfolding row_falls
 need_falls rule i need l k e = nth_passes (falls (row_of rule).conclusion) (row_of rule).premises i need e (row_passes row_falls rule l k table_falls)
 
@@ -95,8 +101,8 @@ rank_for (Is q) k = refl
 rank_for DefersK k = refl
 rank_for RejectsK k = refl
 
-pub rank_within : (q : Prop) → (1 ≤ rank q) × (rank q ≤ 17)
-rank_within q = elim q as (λ x. (1 ≤ rank x) × (rank x ≤ 17)) [
+pub rank_within : (q : Prop) → (1 ≤ rank q) × (rank q ≤ 18)
+rank_within q = elim q as (λ x. (1 ≤ rank x) × (rank x ≤ 18)) [
   | Ne ↦ (omega arith, omega arith)
   | Ea ↦ (omega arith, omega arith)
   | El ↦ (omega arith, omega arith)
@@ -114,6 +120,7 @@ rank_within q = elim q as (λ x. (1 ≤ rank x) × (rank x ≤ 17)) [
   | Dcc ↦ (omega arith, omega arith)
   | Cprog ↦ (omega arith, omega arith)
   | Ccomp ↦ (omega arith, omega arith)
+  | Neut ↦ (omega arith, omega arith)
 ]
 
 same_rank : (p q : Prop) (b c : Bool) (k : ℕ) → nat_eq (rank p) (rank q) ≡ b → (if b && c then Some (number_of p) else None) ≡ Some k → rank q ≡ rank p
@@ -157,17 +164,17 @@ below_row : (conclusion : Conclusion) (q : Prop) (form : Form) (k : ℕ) (need :
 below_row (Has wanted s) q form k need h f = let w = shaped wanted s q form k h in below_by wanted s q form k need w.0 w.1 f
 below_row (Apart pairing) q form k need h f = cc
 
-below_of : (rule : ℕ) (q : Prop) (form : Form) (k i : ℕ) (need : Need) → 1 ≤ rule → rule ≤ 82 → number_for (row_of rule).conclusion q form ≡ Some k → slice_get (row_of rule).premises i ≡ Some need → IsBelow form q need × IsOfTwo form need
+below_of : (rule : ℕ) (q : Prop) (form : Form) (k i : ℕ) (need : Need) → 1 ≤ rule → rule ≤ 95 → number_for (row_of rule).conclusion q form ≡ Some k → slice_get (row_of rule).premises i ≡ Some need → IsBelow form q need × IsOfTwo form need
 below_of rule q form k i need l g h e = below_row (row_of rule).conclusion q form k need h (need_falls rule i need l g e)
 
 -- a premise of a rule that fits is below the conclusion
-pub need_below : (rule : ℕ) (q : Prop) (form : Form) (k i : ℕ) (need : Need) → 1 ≤ rule → rule ≤ 82 → number_for (row_of rule).conclusion q form ≡ Some k → slice_get (row_of rule).premises i ≡ Some need → IsBelow form q need
+pub need_below : (rule : ℕ) (q : Prop) (form : Form) (k i : ℕ) (need : Need) → 1 ≤ rule → rule ≤ 95 → number_for (row_of rule).conclusion q form ≡ Some k → slice_get (row_of rule).premises i ≡ Some need → IsBelow form q need
 need_below rule q form k i need l g h e = (below_of rule q form k i need l g h e).0
 
 -- how much there is to derive in a claim
 abbrev pub measure : Claim → ℕ
-measure (of q term) = 18 * size term + rank q
-measure (disj left right) = 18 * (size left + size right)
+measure (of q term) = 19 * size term + rank q
+measure (disj left right) = 19 * (size left + size right)
 
 parts_smaller : (t : Tree) → is_composed (form_of t) ≡ true → (size (first_part t) < size t) × (size (second_part t) < size t)
 parts_smaller (tree.leaf l) h = cc
@@ -195,7 +202,7 @@ nth_filled letters [] i premise h = cc
 nth_filled letters (need ∷ needs) zero premise h = (need, refl, cc)
 nth_filled letters (need ∷ needs) (suc i) premise h = nth_filled letters needs i premise h
 
-smaller_of : (rule : ℕ) (q : Prop) (t : Tree) (needed : List Claim) (i : ℕ) (premise : Claim) → 1 ≤ rule → rule ≤ 82 → IsFitting (row_of rule) q t needed → slice_get needed i ≡ Some premise → measure premise < measure (of q t)
+smaller_of : (rule : ℕ) (q : Prop) (t : Tree) (needed : List Claim) (i : ℕ) (premise : Claim) → 1 ≤ rule → rule ≤ 95 → IsFitting (row_of rule) q t needed → slice_get needed i ≡ Some premise → measure premise < measure (of q t)
 smaller_of rule q t needed i premise l g f h =
     let w = nth_filled (letters_of t f.k) (row_of rule).premises i premise (ap (λ xs. slice_get xs i) f.needed_are ∙ h) in
     let b = below_of rule q (form_of t) f.k i w.0 l g f.number_is w.1 in

@@ -3,7 +3,7 @@ use Rattle.std.proofs.Common.{◌≡◌, ◌↔◌, ℕ, nat_eq, Bool, true, fal
 use Rattle.std.proofs.lemmas.Bool.{eqb-true, eq-eqb}
 use Rattle.vir_term.specs.declared.leaf.Leaf.{Leaf}
 use Rattle.vir_term.specs.declared.prop.Prop.{Prop}
-use Rattle.vir_term.specs.declared.prop.Prop.TheVariants.{Ne, Ea, El, Defers, Rejects, Elim, Nb, Decr, Dli, Imono, Dimono, Dmono, Mono, Cc, Dcc, Cprog, Ccomp}
+use Rattle.vir_term.specs.declared.prop.Prop.TheVariants.{Ne, Ea, El, Defers, Rejects, Elim, Nb, Decr, Dli, Imono, Dimono, Dmono, Mono, Cc, Dcc, Cprog, Ccomp, Neut}
 use Rattle.vir_term.specs.Tree.{Tree, leaf}
 use Rattle.vir_rules.specs.Claims.{of}
 use Rattle.vir_rules.specs.Derivations.{Derivable}
@@ -30,7 +30,7 @@ module _ (s : Signature) (t : Tree) (ne : TellsOf t Ne s.ne) (ea : TellsOf t Ea 
     (defers_other : (k : ℕ) → nat_eq k 1 ≡ false → TellsOf t (Defers k) (is_number s.defers_other k)) (rejects : (k : ℕ) → TellsOf t (Rejects k) (is_number s.rejects k))
     (elim_one : TellsOf t (Elim 1) s.elim_one) (nb : TellsOf t Nb s.nb) (decr : TellsOf t Decr s.decr) (dli : TellsOf t Dli s.dli) (imono : TellsOf t Imono s.imono)
     (dimono : TellsOf t Dimono s.dimono) (dmono : TellsOf t Dmono s.dmono) (mono : TellsOf t Mono s.mono) (condorcet : TellsOf t Cc s.cc) (dcc : TellsOf t Dcc s.dcc)
-    (cprog : TellsOf t Cprog s.cprog) (ccomp : TellsOf t Ccomp s.ccomp) where
+    (cprog : TellsOf t Cprog s.cprog) (ccomp : TellsOf t Ccomp s.ccomp) (neut : TellsOf t Neut s.neut) where
   pub tells_by_fields : Tells s t
   tells_by_fields Ne = ne
   tells_by_fields Ea = ea
@@ -49,6 +49,7 @@ module _ (s : Signature) (t : Tree) (ne : TellsOf t Ne s.ne) (ea : TellsOf t Ea 
   tells_by_fields Dcc = dcc
   tells_by_fields Cprog = cprog
   tells_by_fields Ccomp = ccomp
+  tells_by_fields Neut = neut
 
 -- of a module nothing is seen but itself
 pub module_seen : (l : Leaf) (first second : Signature) (opposed : Bool) → IsSeen (form.leaf l) first second opposed (leaf l)

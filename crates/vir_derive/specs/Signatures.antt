@@ -36,6 +36,7 @@ has signature prop.Cc = signature.cc
 has signature prop.Dcc = signature.dcc
 has signature prop.Cprog = signature.cprog
 has signature prop.Ccomp = signature.ccomp
+has signature prop.Neut = signature.neut
 
 -- A signature tells of a term: it has just the properties that are derivable, each with each number.
 abbrev pub Tells : Signature → Tree → Type 0

@@ -19,7 +19,7 @@ fn head(term: &Term) -> Option<&Leaf>
         },
         Term::Rev(part) => head(part),
         Term::Seq(first, _) => head(first),
-        Term::Par(_, _) | Term::Loop { .. } => None,
+        Term::Par(_, _) | Term::Loop { .. } | Term::Until { .. } => None,
     }
 }
 

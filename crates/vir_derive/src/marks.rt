@@ -59,7 +59,7 @@ impl Marks {
     {
         match term {
             Term::Leaf(leaf) => Ok(Marks::Leaf(Signature::of_leaf(leaf))),
-            Term::Rev(part) | Term::Loop { body: part, .. } => {
+            Term::Rev(part) | Term::Loop { body: part, .. } | Term::Until { body: part, .. } => {
                 let part = Marks::of(alloc, part)?;
                 Marks::join_one(alloc, Form::of(term), part)
             }

@@ -81,7 +81,7 @@ impl<'a> Sight<'a> {
     {
         match self.form {
             Form::Leaf(Leaf::PassFirst { k, .. }) => Some(*k),
-            Form::Loop(k) => Some(k),
+            Form::Loop(k) | Form::Until(k) => Some(k),
             Form::Seq => self.first.defers_other,
             _ => None,
         }

@@ -35,6 +35,7 @@ pub struct Signature {
     pub dcc: bool,
     pub cprog: bool,
     pub ccomp: bool,
+    pub neut: bool,
 }
 
 impl Signature {
@@ -58,6 +59,7 @@ impl Signature {
         dcc: false,
         cprog: false,
         ccomp: false,
+        neut: false,
     };
 
     /// The signature of a module.
@@ -98,6 +100,7 @@ impl Signature {
             dcc: sight.derives(Prop::Dcc),
             cprog: sight.derives(Prop::Cprog),
             ccomp: sight.derives(Prop::Ccomp),
+            neut: sight.derives(Prop::Neut),
         }
     }
 
@@ -124,6 +127,7 @@ impl Signature {
             Prop::Dcc => self.dcc,
             Prop::Cprog => self.cprog,
             Prop::Ccomp => self.ccomp,
+            Prop::Neut => self.neut,
         }
     }
 }

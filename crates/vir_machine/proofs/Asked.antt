@@ -7,8 +7,9 @@ use Rattle.vir_profile.specs.Profiles.{restrict}
 use Rattle.vir_term.specs.declared.leaf.Leaf.{Leaf}
 use Rattle.vir_term.specs.declared.leaf.LeafKind.{LeafKind}
 use Rattle.vir_term.specs.Kinds.{kind_of}
-use Rattle.vir_term.specs.Tree.{Tree, leaf, rev, seq, par, loop}
+use Rattle.vir_term.specs.Tree.{Tree, leaf, rev, seq, par, loop, End}
 use Rattle.vir_mean.specs.Modules.{Meaning}
+use Rattle.vir_mean.specs.Compositions.{is_end}
 use Rattle.vir_mean.specs.Meaning.{mean}
 use Rattle.vir_counter.specs.Calls.{risen}
 use Rattle.vir_compile.specs.Calls.{Calls, turns_calls, calls_of}
@@ -40,12 +41,12 @@ module _ (i : ℕ) (served : List (List LeafKind)) where
   number_of-append (l ∷ rest) second = let e = number_of-append rest second in omega (arith, e)
 
   -- the calls of a loop, by those of its body
-  module _ (k : ℕ) (body : Meaning) (calls : Calls) (count : Count) (same : (a : Set) (lines : List Entry) → number_of (calls a lines) ≡ count a lines) where
+  module _ (k : End) (body : Meaning) (calls : Calls) (count : Count) (same : (a : Set) (lines : List Entry) → number_of (calls a lines) ≡ count a lines) where
     number_of-turns_calls : (most : ℕ) (a : Set) (lines : List Entry) → number_of (turns_calls most k body calls a lines) ≡ turns_count most k body count a lines
     unfolding turns_calls turns_count
     number_of-turns_calls zero a lines = refl
     number_of-turns_calls (suc most) a lines =
-        pick (nat_eq (set.len a) k) (set.is_subset a (body a lines).deferred) (turns_calls most k body calls (body a lines).deferred (restrict (body a lines).deferred lines)) (turns_count most k body count (body a lines).deferred (restrict (body a lines).deferred lines))
+        pick (is_end k (set.len a)) (set.is_subset a (body a lines).deferred) (turns_calls most k body calls (body a lines).deferred (restrict (body a lines).deferred lines)) (turns_count most k body count (body a lines).deferred (restrict (body a lines).deferred lines))
         (number_of-turns_calls most (body a lines).deferred (restrict (body a lines).deferred lines))
       where
         pick : (met whole : Bool) (later : List Leaf) (more : ℕ) → number_of later ≡ more → number_of (cond met [] (calls a lines ++ cond whole [] later)) ≡ cond met 0 (count a lines + cond whole 0 more)

@@ -2,10 +2,10 @@
 use Rattle.std.proofs.Common.{◌≡◌, ℕ, zero, suc, ◌+◌, Bool, true, ◌&&◌, List, [], ◌∷◌, ◌++◌, Some, refl, sym, ap, ◌∙◌, arith}
 use Rattle.std.specs.Prelude.{slice_get}
 use Rattle.vir_term.specs.declared.leaf.LeafKind.{LeafKind}
-use Rattle.vir_term.specs.Tree.{Tree, leaf, rev, seq, par, loop}
+use Rattle.vir_term.specs.Tree.{Tree, leaf, rev, seq, par, loop, End, exactly, at_most}
 use Rattle.vir_code.specs.declared.instr.Instr.{Instr}
-use Rattle.vir_code.specs.declared.instr.Instr.TheVariants.{Call, KeepDomain, FetchDomain, JoinSeq, JoinMax, Revise, StartLoop, LoopTest, LoopBack, EndLoop}
-use Rattle.vir_code.specs.Code.{width, code_at, code_of}
+use Rattle.vir_code.specs.declared.instr.Instr.TheVariants.{Call, KeepDomain, FetchDomain, JoinSeq, JoinMax, Revise, StartLoop, LoopBack, EndLoop}
+use Rattle.vir_code.specs.Code.{test_of, width, code_at, code_of}
 use Rattle.vir_machine.specs.Uses.{all_served}
 use Rattle.vir_machine.specs.Asked.{call_served}
 
@@ -34,6 +34,10 @@ module _ (served : List (List LeafKind)) where
   right : (a b : Bool) → (a && b) ≡ true → b ≡ true
   right a b e = grind arith
 
+  test_served : (k : End) (exit : ℕ) → call_served served (test_of k exit) ≡ true
+  test_served (exactly k) exit = refl
+  test_served (at_most k) exit = refl
+
   code_served : (p : ℕ) (t : Tree) → all_served served t ≡ true → AreServed (code_at p t)
   code_served p (leaf l) is = first_served (Call l) [] is none_served
   code_served p (rev part) is = then_last (code_at p part) Revise refl (code_served p part is)
@@ -48,9 +52,9 @@ module _ (served : List (List LeafKind)) where
       (then_last code JoinMax refl (code_served (p + width first) second (right (all_served served first) (all_served served second) is)))
   code_served p (loop k body) is =
       let code : List Instr = code_at (p + 2) body in
-      let test : Instr = LoopTest k (p + 2 + width body + 1) in
+      let test : Instr = test_of k (p + 2 + width body + 1) in
       let back : Instr = LoopBack (p + 1) in
-      first_served StartLoop (test ∷ (code ++ (back ∷ (EndLoop ∷ [])))) refl (first_served test (code ++ (back ∷ (EndLoop ∷ []))) refl (both_served code (back ∷ (EndLoop ∷ [])) (code_served (p + 2) body is)
+      first_served StartLoop (test ∷ (code ++ (back ∷ (EndLoop ∷ [])))) refl (first_served test (code ++ (back ∷ (EndLoop ∷ []))) (test_served k (p + 2 + width body + 1)) (both_served code (back ∷ (EndLoop ∷ [])) (code_served (p + 2) body is)
       (first_served back (EndLoop ∷ []) refl (first_served EndLoop [] refl none_served))))
 
 -- an instruction of the code of a served term, where what is served has stayed the same

@@ -7,8 +7,9 @@ use Rattle.vir_profile.specs.Profiles.{restrict}
 use Rattle.vir_term.specs.declared.leaf.Leaf.{Leaf}
 use Rattle.vir_term.specs.declared.leaf.LeafKind.{LeafKind}
 use Rattle.vir_term.specs.Kinds.{kind_of}
-use Rattle.vir_term.specs.Tree.{Tree, leaf, rev, seq, par, loop}
+use Rattle.vir_term.specs.Tree.{Tree, leaf, rev, seq, par, loop, End}
 use Rattle.vir_mean.specs.Modules.{Meaning}
+use Rattle.vir_mean.specs.Compositions.{is_end}
 use Rattle.vir_mean.specs.Meaning.{mean}
 use Rattle.vir_machine.specs.Bench.{is_served, first_serving}
 
@@ -37,21 +38,21 @@ first_unserved served (loop k body) = first_unserved served body
 abbrev pub Count : Type 0
 Count = Set → List Entry → ℕ
 
--- One turn of a loop: it asks for nothing where the set has k members; else for what its body asks for, and where
+-- One turn of a loop: it asks for nothing where the set is small enough; else for what its body asks for, and where
 -- the body doesn't defer all of the set, for what follows on what the body defers.
-abbrev pub turn_count : ℕ → Meaning → Count → Count → Count
+abbrev pub turn_count : End → Meaning → Count → Count → Count
 turn_count k body uses next a lines =
-    if nat_eq (set.len a) k then 0
+    if is_end k (set.len a) then 0
     else uses a lines + (if set.is_subset a (body a lines).deferred then 0 else next (body a lines).deferred (restrict (body a lines).deferred lines))
 
 -- a loop of at most so many turns
-unfoldable pub turns_count : ℕ → ℕ → Meaning → Count → Count
+unfoldable pub turns_count : ℕ → End → Meaning → Count → Count
 turns_count zero k body uses a lines = 0
 turns_count (suc most) k body uses a lines = turn_count k body uses (turns_count most k body uses) a lines
 
 -- Each turn that goes on leaves fewer, and the last may leave all: there is at most one turn more than the set
 -- has members.
-abbrev pub loop_count : ℕ → Meaning → Count → Count
+abbrev pub loop_count : End → Meaning → Count → Count
 loop_count k body uses a lines = turns_count (suc (set.len a)) k body uses a lines
 
 -- How often the meaning of a term comes to a module whose first serving counter has index i, also on the empty set.

@@ -79,7 +79,7 @@ impl Bench {
             Term::Rev(part) => self.serves_all(part),
             Term::Seq(first, second) => self.serves_all(first) && self.serves_all(second),
             Term::Par(first, second) => self.serves_all(first) && self.serves_all(second),
-            Term::Loop { body, .. } => self.serves_all(body),
+            Term::Loop { body, .. } | Term::Until { body, .. } => self.serves_all(body),
         }
     }
 
@@ -97,7 +97,7 @@ impl Bench {
                     None => self.first_unserved(second),
                 }
             }
-            Term::Loop { body, .. } => self.first_unserved(body),
+            Term::Loop { body, .. } | Term::Until { body, .. } => self.first_unserved(body),
         }
     }
 

@@ -182,6 +182,13 @@ fn act(
                 place + 1
             }
         }
+        Instr::UntilTest { k, exit } => {
+            if u32::from(here.count()) <= *k {
+                *exit
+            } else {
+                place + 1
+            }
+        }
         Instr::LoopBack { start } => {
             let turn = splits.pop();
             if is_part(here, &turn.deferred) {

@@ -13,7 +13,7 @@ use Rattle.vir_profile.specs.Orders.{IsListing}
 use Rattle.vir_profile.specs.Profiles.{restrict}
 use Rattle.vir_term.specs.declared.prop.Prop.TheVariants.{Defers}
 use Rattle.vir_term.specs.declared.leaf.Leaf.TheVariants.{PassFirst}
-use Rattle.vir_term.specs.Tree.{Tree, leaf, loop}
+use Rattle.vir_term.specs.Tree.{Tree, leaf, loop, exactly}
 use Rattle.vir_mean.specs.FixedOrders.{is_ahead, is_among_first, first_members}
 use Rattle.vir_mean.specs.Modules.{all_deferred}
 use Rattle.vir_mean.specs.Compositions.{joined}
@@ -70,7 +70,7 @@ not-all-passed = elim (set.is_subset one_two_three passed) as (λ b. set.is_subs
 ] refl
 
 abbrev cut_loop : Tree
-cut_loop = loop 2 (leaf (PassFirst 1 []))
+cut_loop = loop (exactly 2) (leaf (PassFirst 1 []))
 
 -- and the loop goes on to 1 alone
 cut_loop-deferred : IsPart (mean cut_loop one_two_three []).deferred (just 1)
@@ -79,14 +79,14 @@ cut_loop-deferred x member =
     let next : Split = mean cut_loop passed (restrict passed []) in
     let body : Split = mean (leaf (PassFirst 1 [])) one_two_three [] in
     let turned : mean cut_loop one_two_three [] ≡ joined body next =
-    loop_of-turn 2 (mean (leaf (PassFirst 1 []))) (mean-split (leaf (PassFirst 1 []))) one_two_three []
+    loop_of-turn (exactly 2) (mean (leaf (PassFirst 1 []))) (mean-split (leaf (PassFirst 1 []))) one_two_three []
     ∙ ap (λ b. cond b (all_deferred one_two_three []) (joined body next)) (ap₂ (λ n c. nat_eq n 2 || c) len-one_two_three not-all-passed) in
     passed-just x (deferred_part passed next (mean-split cut_loop passed (restrict passed [])) x (sym (ap (λ s. set.contains s.deferred x) turned) ∙ member))
 
 -- so a loop may defer fewer than the number that it is to end with
 pub defers-cut_loop : Holds (Defers 2) (mean cut_loop) → ⊥
 defers-cut_loop holds =
-    let two = holds one_two_three [] (All-nil (λ line. IsListing one_two_three line.order)) (let size = len-one_two_three in omega arith) in
+    let two = holds one_two_three [] (record { positive = contains-one_two_three 0; lists = All-nil (λ line. IsListing one_two_three line.order) }) (let size = len-one_two_three in omega arith) in
     let few = len-part (mean cut_loop one_two_three []).deferred (just 1) cut_loop-deferred in
     let one = len-just 1 in
     absurd (omega arith)

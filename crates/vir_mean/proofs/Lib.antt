@@ -12,6 +12,12 @@ pub mod MemberListings
 pub mod MemberLists
 pub mod MemberSums
 pub mod PairScores
+pub mod Passing
+pub mod RenamedElections
+pub mod RenamedLeaves
+pub mod RenamedProfiles
+pub mod RenamedScores
+pub mod RenamedSets
 pub mod RestrictedLifts
 pub mod PairWeights
 pub mod RestrictionLemmas

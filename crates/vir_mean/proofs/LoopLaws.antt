@@ -1,5 +1,5 @@
 -- The laws of loops.
-use Rattle.std.proofs.Common.{◌≡◌, ◌≢◌, ℕ, zero, suc, ◌<◌, ◌≤◌, Bool, true, false, true≢false, cond, ◌||◌, nat_eq, nat_lt, List, refl, sym, ap, ◌∙◌, arith}
+use Rattle.std.proofs.Common.{◌≡◌, ◌≢◌, ℕ, zero, suc, ◌<◌, ◌≤◌, Bool, true, false, true≢false, cond, ◌||◌, nat_lt, List, refl, sym, ap, ◌∙◌, arith}
 use Rattle.std.proofs.lemmas.Bool.Decides.{nat_tests}
 use Rattle.std.specs.Cmp.{nat_cmp_total}
 use Rattle.std.specs.FinSet as set
@@ -11,8 +11,9 @@ use Rattle.vir_altset.proofs.SizeLaws.{whole_part}
 use Rattle.vir_altset.proofs.SplitLaws.{deferred_part}
 use Rattle.vir_profile.specs.declared.ballot.Entry.{Entry}
 use Rattle.vir_profile.specs.Profiles.{restrict}
+use Rattle.vir_term.specs.Tree.{End, exactly, at_most}
 use Rattle.vir_mean.specs.Modules.{Meaning, all_deferred}
-use Rattle.vir_mean.specs.Compositions.{joined, turn, turns, loop_of}
+use Rattle.vir_mean.specs.Compositions.{is_end, IsEnd, joined, turn, turns, loop_of}
 use Rattle.vir_mean.proofs.MeaningLaws.{Splits}
 use Rattle.vir_mean.proofs.RestrictionLemmas.{restrict-restrict}
 
@@ -84,29 +85,31 @@ goes_on true whole x y some other = absurd (true≢false some)
 goes_on false true x y some other = absurd (true≢false other)
 goes_on false false x y some other = refl
 
-equal : (m n : ℕ) → m ≡ n → nat_eq m n ≡ true
-equal m n same = grind (arith, nat_tests)
+at_end : (k : End) (n : ℕ) → IsEnd k n → is_end k n ≡ true
+at_end (exactly k) n few = grind (arith, nat_tests)
+at_end (at_most k) n few = grind (arith, nat_tests)
 
-differ : (m n : ℕ) → m ≢ n → nat_eq m n ≡ false
-differ m n apart = grind (arith, nat_tests)
+before_end : (k : End) (n : ℕ) → (IsEnd k n → ⊥) → is_end k n ≡ false
+before_end (exactly k) n many = grind (arith, nat_tests)
+before_end (at_most k) n many = grind (arith, nat_tests)
 
--- where the set has k members
-turns-few : (most k : ℕ) (body : Meaning) (a : Set) (lines : List Entry) → set.len a ≡ k → turns most k body a lines ≡ all_deferred a lines
+-- where the set is small enough
+turns-few : (most : ℕ) (k : End) (body : Meaning) (a : Set) (lines : List Entry) → IsEnd k (set.len a) → turns most k body a lines ≡ all_deferred a lines
 unfolding turns
 turns-few zero k body a lines few = refl
 turns-few (suc most) k body a lines few =
-    ap (λ b. cond (b || set.is_subset a (body a lines).deferred) (all_deferred a lines) (joined (body a lines) (turns most k body (body a lines).deferred (restrict (body a lines).deferred lines)))) (equal (set.len a) k few)
+    ap (λ b. cond (b || set.is_subset a (body a lines).deferred) (all_deferred a lines) (joined (body a lines) (turns most k body (body a lines).deferred (restrict (body a lines).deferred lines)))) (at_end k (set.len a) few)
 
--- a loop leaves a set of k members as it is
-pub loop_of-few : (k : ℕ) (body : Meaning) (a : Set) (lines : List Entry) → set.len a ≡ k → loop_of k body a lines ≡ all_deferred a lines
+-- a loop leaves a set that is small enough as it is
+pub loop_of-few : (k : End) (body : Meaning) (a : Set) (lines : List Entry) → IsEnd k (set.len a) → loop_of k body a lines ≡ all_deferred a lines
 loop_of-few k body a lines few = turns-few (set.len a) k body a lines few
 
 -- and one of none
-pub loop_of-none : (k : ℕ) (body : Meaning) (a : Set) (lines : List Entry) → set.len a ≡ 0 → loop_of k body a lines ≡ all_deferred a lines
+pub loop_of-none : (k : End) (body : Meaning) (a : Set) (lines : List Entry) → set.len a ≡ 0 → loop_of k body a lines ≡ all_deferred a lines
 unfolding turns
 loop_of-none k body a lines none = ap (λ most. turns most k body a lines) none
 
-module _ (k : ℕ) (body : Meaning) (splits : Splits body) where
+module _ (k : End) (body : Meaning) (splits : Splits body) where
   left_of : Set → List Entry → Set
   left_of a lines = (body a lines).deferred
 
@@ -116,10 +119,10 @@ module _ (k : ℕ) (body : Meaning) (splits : Splits body) where
   turn-same : (next other : Meaning) (a : Set) (lines : List Entry)
       → (set.is_subset a (body a lines).deferred ≡ false → next (body a lines).deferred (restrict (body a lines).deferred lines) ≡ other (body a lines).deferred (restrict (body a lines).deferred lines))
       → turn k body next a lines ≡ turn k body other a lines
-  turn-same next other a lines same = choose (nat_eq (set.len a) k) (set.is_subset a (body a lines).deferred) _ _ _ (λ e. ap (joined (body a lines)) (same e))
+  turn-same next other a lines same = choose (is_end k (set.len a)) (set.is_subset a (body a lines).deferred) _ _ _ (λ e. ap (joined (body a lines)) (same e))
 
   turn-whole : (next : Meaning) (a : Set) (lines : List Entry) → (body a lines).deferred ≡ a → turn k body next a lines ≡ all_deferred a lines
-  turn-whole next a lines whole = ends (nat_eq (set.len a) k) (set.is_subset a (body a lines).deferred) _ _ (subset_of_same a (body a lines).deferred whole)
+  turn-whole next a lines whole = ends (is_end k (set.len a)) (set.is_subset a (body a lines).deferred) _ _ (subset_of_same a (body a lines).deferred whole)
 
   turn-none : (next : Meaning) (a : Set) (lines : List Entry) → set.len a ≤ 0 → turn k body next a lines ≡ all_deferred a lines
   turn-none next a lines none = turn-whole next a lines (whole_part (body a lines).deferred a (part a lines) (omega arith))
@@ -149,18 +152,18 @@ module _ (k : ℕ) (body : Meaning) (splits : Splits body) where
   loop_of-whole a lines whole = loop_of-turn a lines ∙ turn-whole (loop_of k body) a lines whole
 
   -- and else goes on with what the body defers
-  pub loop_of-more : (a : Set) (lines : List Entry) → set.len a ≢ k → (body a lines).deferred ≢ a
+  pub loop_of-more : (a : Set) (lines : List Entry) → (IsEnd k (set.len a) → ⊥) → (body a lines).deferred ≢ a
       → loop_of k body a lines ≡ joined (body a lines) (loop_of k body (body a lines).deferred (restrict (body a lines).deferred lines))
   loop_of-more a lines some other =
       loop_of-turn a lines
-      ∙ goes_on (nat_eq (set.len a) k) (set.is_subset a (body a lines).deferred) _ _ (differ (set.len a) k some) (subset_of_other a (body a lines).deferred (part a lines) other)
+      ∙ goes_on (is_end k (set.len a)) (set.is_subset a (body a lines).deferred) _ _ (before_end k (set.len a) some) (subset_of_other a (body a lines).deferred (part a lines) other)
 
   -- what such a turn leaves is smaller
   pub len-deferred : (a : Set) (lines : List Entry) → (body a lines).deferred ≢ a → set.len (body a lines).deferred < set.len a
   len-deferred a lines other = len-part_of_other a (body a lines).deferred (part a lines) (subset_of_other a (body a lines).deferred (part a lines) other)
 
   -- a split so far, and a further turn that goes on: the loop on lines that are restricted anew each turn
-  pub joined-turn : (so_far next : Split) (lines : List Entry) → next ≡ body so_far.deferred (restrict so_far.deferred lines) → set.len so_far.deferred ≢ k → next.deferred ≢ so_far.deferred
+  pub joined-turn : (so_far next : Split) (lines : List Entry) → next ≡ body so_far.deferred (restrict so_far.deferred lines) → (IsEnd k (set.len so_far.deferred) → ⊥) → next.deferred ≢ so_far.deferred
       → joined (joined so_far next) (loop_of k body next.deferred (restrict next.deferred lines)) ≡ joined so_far (loop_of k body so_far.deferred (restrict so_far.deferred lines))
   joined-turn so_far next lines is some other =
       let d = so_far.deferred in

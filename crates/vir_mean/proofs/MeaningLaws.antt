@@ -1,5 +1,5 @@
 -- The laws of meanings.
-use Rattle.std.proofs.Common.{◌≡◌, ℕ, zero, suc, Bool, true, false, cond, ◌||◌, not, nat_eq, List, Result, Ok, Err, IfOk}
+use Rattle.std.proofs.Common.{◌≡◌, ℕ, zero, suc, Bool, true, false, cond, ◌||◌, not, List, Result, Ok, Err, IfOk}
 use Rattle.std.specs.FinSet as set
 use Rattle.vir_altset.specs.Sets.{Set}
 use Rattle.vir_altset.specs.Splits.{IsSplitOf}
@@ -9,12 +9,12 @@ use Rattle.vir_profile.specs.declared.ballot.Entry.{Entry}
 use Rattle.vir_profile.specs.Profiles.{restrict}
 use Rattle.vir_term.specs.declared.leaf.Leaf.{Leaf}
 use Rattle.vir_term.specs.declared.leaf.Leaf.TheVariants as leaf
-use Rattle.vir_term.specs.Tree.{Tree, leaf as module_of, rev, seq, par, loop}
+use Rattle.vir_term.specs.Tree.{End, Tree, leaf as module_of, rev, seq, par, loop}
 use Rattle.vir_mean.specs.Eliminators.{is_passed, eliminated}
 use Rattle.vir_mean.specs.FixedOrders.{is_among_first}
 use Rattle.vir_mean.specs.Scores.{plurality_score}
 use Rattle.vir_mean.specs.Modules.{Meaning, leaf_mean, all_deferred as deferring}
-use Rattle.vir_mean.specs.Compositions.{joined, turn, turns}
+use Rattle.vir_mean.specs.Compositions.{is_end, joined, turn, turns}
 use Rattle.vir_mean.specs.Meaning.{mean}
 
 -- a meaning that splits each set
@@ -48,14 +48,14 @@ joined-split first second one other a lines =
     join_split a decided (second decided.deferred (restrict decided.deferred lines)) (one a lines) (other decided.deferred (restrict decided.deferred lines))
 
 -- a turn splits the set, where the body and what comes next do
-turn-split : (k : ℕ) (body next : Meaning) → Splits body → Splits next → Splits (turn k body next)
+turn-split : (k : End) (body next : Meaning) → Splits body → Splits next → Splits (turn k body next)
 turn-split k body next one other a lines =
-    elim (nat_eq (set.len a) k || set.is_subset a (body a lines).deferred) as (λ b. IsSplitOf a (cond b (deferring a lines) (joined (body a lines) (next (body a lines).deferred (restrict (body a lines).deferred lines))))) [
+    elim (is_end k (set.len a) || set.is_subset a (body a lines).deferred) as (λ b. IsSplitOf a (cond b (deferring a lines) (joined (body a lines) (next (body a lines).deferred (restrict (body a lines).deferred lines))))) [
       | true ↦ all_deferred a
       | false ↦ joined-split body next one other a lines
     ]
 
-pub turns-split : (most k : ℕ) (body : Meaning) → Splits body → Splits (turns most k body)
+pub turns-split : (most : ℕ) (k : End) (body : Meaning) → Splits body → Splits (turns most k body)
 unfolding turns
 turns-split zero k body one a lines = all_deferred a
 turns-split (suc most) k body one a lines = turn-split k body (turns most k body) one (turns-split most k body one) a lines

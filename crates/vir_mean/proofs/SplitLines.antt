@@ -13,14 +13,14 @@ use Rattle.vir_term.specs.declared.leaf.Leaf.{Leaf}
 use Rattle.vir_term.specs.declared.leaf.Leaf.TheVariants as leaf
 use Rattle.vir_term.specs.declared.score.Score.{Score}
 use Rattle.vir_term.specs.declared.score.Score.TheVariants.{Plurality, Borda, Copeland, Minimax, Condorcet}
-use Rattle.vir_term.specs.Tree.{Tree, leaf as module_of, rev, seq, par, loop}
+use Rattle.vir_term.specs.Tree.{End, Tree, leaf as module_of, rev, seq, par, loop}
 use Rattle.vir_mean.specs.declared.elimination.Elimination.{Elimination}
 use Rattle.vir_mean.specs.declared.elimination.Elimination.TheVariants.{Max, Min, Below, Upto}
 use Rattle.vir_mean.specs.Listings.{others, total, least}
 use Rattle.vir_mean.specs.Scores.{score}
 use Rattle.vir_mean.specs.Eliminators.{is_passed, goes, eliminated, eliminator}
 use Rattle.vir_mean.specs.Modules.{Meaning, leaf_mean, all_deferred}
-use Rattle.vir_mean.specs.Compositions.{rev_of, seq_of, par_of, joined, merged, turn, turns}
+use Rattle.vir_mean.specs.Compositions.{rev_of, seq_of, par_of, is_end, joined, merged, turn, turns}
 use Rattle.vir_mean.specs.Meaning.{mean}
 
 -- whichever orders are asked for, as many voters cast them
@@ -82,13 +82,13 @@ seq_of-alike first second by_first by_second a p q alike =
 par_of-alike : (first second : Meaning) → GoesByWeights first → GoesByWeights second → GoesByWeights (par_of first second)
 par_of-alike first second by_first by_second a p q alike = ap₂ merged (by_first a p q alike) (by_second a p q alike)
 
-turn-alike : (k : ℕ) (body next : Meaning) → GoesByWeights body → GoesByWeights next → GoesByWeights (turn k body next)
+turn-alike : (k : End) (body next : Meaning) → GoesByWeights body → GoesByWeights next → GoesByWeights (turn k body next)
 turn-alike k body next by_body by_next a p q alike =
-    ap (λ later. cond (nat_eq (set.len a) k || set.is_subset a (body a p).deferred) (all_deferred a p) (joined (body a p) later))
+    ap (λ later. cond (is_end k (set.len a) || set.is_subset a (body a p).deferred) (all_deferred a p) (joined (body a p) later))
     (by_next (body a p).deferred _ _ (alike_restricted (body a p).deferred p q alike))
-    ∙ ap (λ (s : Split). cond (nat_eq (set.len a) k || set.is_subset a s.deferred) (all_deferred a p) (joined s (next s.deferred (restrict s.deferred q)))) (by_body a p q alike)
+    ∙ ap (λ (s : Split). cond (is_end k (set.len a) || set.is_subset a s.deferred) (all_deferred a p) (joined s (next s.deferred (restrict s.deferred q)))) (by_body a p q alike)
 
-turns-alike : (most k : ℕ) (body : Meaning) → GoesByWeights body → GoesByWeights (turns most k body)
+turns-alike : (most : ℕ) (k : End) (body : Meaning) → GoesByWeights body → GoesByWeights (turns most k body)
 unfolding turns
 turns-alike zero k body by_body a p q alike = refl
 turns-alike (suc most) k body by_body a p q alike = turn-alike k body (turns most k body) by_body (turns-alike most k body by_body) a p q alike

@@ -1,8 +1,9 @@
 -- The meanings of compositions, by the meanings of their parts.
-use Rattle.std.specs.Prelude.{ℕ, zero, suc, ◌||◌, nat_eq, if◌then◌else◌}
+use Rattle.std.specs.Prelude.{◌≡◌, ℕ, zero, suc, ◌≤◌, Bool, ◌||◌, nat_eq, nat_le, if◌then◌else◌}
 use Rattle.std.specs.FinSet as set
 use Rattle.vir_altset.specs.declared.split.Split.{Split}
 use Rattle.vir_profile.specs.Profiles.{restrict}
+use Rattle.vir_term.specs.Tree.{End, exactly, at_most}
 use Rattle.vir_mean.specs.Modules.{Meaning, all_deferred}
 
 -- revision: what is elected is deferred, and all others are rejected
@@ -34,19 +35,29 @@ merged first second = record {
 abbrev pub par_of : Meaning → Meaning → Meaning
 par_of first second a lines = merged (first a lines) (second a lines)
 
--- One turn of a loop: it ends where the set has k members, or the body defers all of it; else it goes on with
+-- whether a loop that ends so ends at a set of this size
+abbrev pub is_end : End → ℕ → Bool
+is_end (exactly k) size = nat_eq size k
+is_end (at_most k) size = nat_le size k
+
+-- It ends there: as a statement.
+abbrev pub IsEnd : End → ℕ → Type 0
+IsEnd (exactly k) size = size ≡ k
+IsEnd (at_most k) size = size ≤ k
+
+-- One turn of a loop: it ends where the set is small enough, or the body defers all of it; else it goes on with
 -- what the body defers.
-abbrev pub turn : ℕ → Meaning → Meaning → Meaning
+abbrev pub turn : End → Meaning → Meaning → Meaning
 turn k body next a lines =
-    if nat_eq (set.len a) k || set.is_subset a (body a lines).deferred
+    if is_end k (set.len a) || set.is_subset a (body a lines).deferred
     then all_deferred a lines
     else joined (body a lines) (next (body a lines).deferred (restrict (body a lines).deferred lines))
 
 -- a loop of at most so many turns
-unfoldable pub turns : ℕ → ℕ → Meaning → Meaning
+unfoldable pub turns : ℕ → End → Meaning → Meaning
 turns zero k body a lines = all_deferred a lines
 turns (suc most) k body a lines = turn k body (turns most k body) a lines
 
 -- loop composition: each turn that goes on leaves fewer, so there are at most as many as the set has members
-abbrev pub loop_of : ℕ → Meaning → Meaning
+abbrev pub loop_of : End → Meaning → Meaning
 loop_of k body a lines = turns (set.len a) k body a lines

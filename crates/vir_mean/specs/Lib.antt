@@ -4,8 +4,11 @@ pub mod Eliminators
 pub mod FixedOrders
 pub mod Modules
 pub mod Compositions
+pub mod Endings
 pub mod Meaning
 pub mod Lifts
+pub mod Elections
+pub mod Neutrality
 pub mod Properties
 pub mod Disjointness
 pub mod Numbers

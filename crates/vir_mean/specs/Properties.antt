@@ -4,25 +4,26 @@ use Rattle.std.specs.FinSet as set
 use Rattle.vir_altset.specs.Sets.{Set}
 use Rattle.vir_altset.specs.declared.split.Split.{Split}
 use Rattle.vir_profile.specs.declared.ballot.Entry.{Entry}
-use Rattle.vir_profile.specs.Profiles.{IsProfileOn}
+use Rattle.vir_mean.specs.Elections.{IsElection}
 use Rattle.vir_profile.specs.Winners.{IsCondorcetWinner}
 use Rattle.vir_term.specs.declared.prop.Prop.{Prop}
-use Rattle.vir_term.specs.declared.prop.Prop.TheVariants.{Ne, Ea, El, Defers, Rejects, Elim, Nb, Decr, Dli, Imono, Dimono, Dmono, Mono, Cc, Dcc, Cprog, Ccomp}
+use Rattle.vir_term.specs.declared.prop.Prop.TheVariants.{Ne, Ea, El, Defers, Rejects, Elim, Nb, Decr, Dli, Imono, Dimono, Dmono, Mono, Cc, Dcc, Cprog, Ccomp, Neut}
 use Rattle.vir_mean.specs.Lifts.{Lifts}
 use Rattle.vir_mean.specs.Modules.{Meaning}
+use Rattle.vir_mean.specs.Neutrality.{IsNeutral}
 
 -- It holds of each set and its split.
 abbrev pub OnEach : Meaning → (Set → Split → Type 0) → Type 0
-OnEach m Says = (a : Set) (p : List Entry) → IsProfileOn a p → Says a (m a p)
+OnEach m Says = (a : Set) (p : List Entry) → IsElection a p → Says a (m a p)
 
 -- It holds of each member x, and the splits before and after x is lifted.
 abbrev pub OnLifts : Meaning → (ℕ → Split → Split → Type 0) → Type 0
 OnLifts m Says =
-    (a : Set) (p q : List Entry) (x : ℕ) → IsProfileOn a p → IsProfileOn a q → set.contains a x ≡ true → Lifts x p q → Says x (m a p) (m a q)
+    (a : Set) (p q : List Entry) (x : ℕ) → IsElection a p → IsElection a q → set.contains a x ≡ true → Lifts x p q → Says x (m a p) (m a q)
 
 -- It holds of each Condorcet winner w, its set, and the split.
 abbrev pub OnWinners : Meaning → (ℕ → Set → Split → Type 0) → Type 0
-OnWinners m Says = (a : Set) (p : List Entry) (w : ℕ) → IsProfileOn a p → IsCondorcetWinner w a p → Says w a (m a p)
+OnWinners m Says = (a : Set) (p : List Entry) (w : ℕ) → IsElection a p → IsCondorcetWinner w a p → Says w a (m a p)
 
 -- the set of x alone
 abbrev pub just : ℕ → Set
@@ -67,3 +68,4 @@ Holds Cc m = OnWinners m (λ w a s. s ≡ record { elected = just w; rejected = 
 Holds Dcc m = OnWinners m (λ w a s. s ≡ record { elected = set.empty; rejected = set.difference a (just w); deferred = just w })
 Holds Cprog m = OnWinners m MakesProgress
 Holds Ccomp m = OnWinners m IsCompatible
+Holds Neut m = IsNeutral m

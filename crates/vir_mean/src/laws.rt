@@ -1,13 +1,15 @@
 // What holds of meanings on profiles of every size. Each law is the contract of a function that does nothing.
-ghost use Rattle.std.specs.Prelude.{◌≡◌, ℕ, ◌+◌, List, [], ◌∷◌, ◌++◌};
+ghost use Rattle.std.specs.Prelude.{◌≡◌, ℕ, ◌+◌, ◌≤◌, List, [], ◌∷◌, ◌++◌};
 ghost use Rattle.std.specs.FinSet as set;
 ghost use Rattle.vir_altset.specs.Sets.{Set};
 ghost use Rattle.vir_altset.specs.Splits.{IsSplitOf};
 ghost use Rattle.vir_profile.specs.declared.ballot.Entry.{Entry};
 ghost use Rattle.vir_term.specs.declared.leaf.Leaf.TheVariants.{PassFirst};
-ghost use Rattle.vir_term.specs.declared.prop.Prop.TheVariants.{Defers};
-ghost use Rattle.vir_term.specs.Tree.{Tree, leaf, loop};
-ghost use Rattle.vir_mean.specs.Modules.{all_deferred};
+ghost use Rattle.vir_term.specs.declared.prop.Prop.TheVariants.{Defers, Neut};
+ghost use Rattle.vir_term.specs.Tree.{End, Tree, leaf, loop, exactly, at_most};
+ghost use Rattle.vir_mean.specs.Modules.{all_deferred, first_passed};
+ghost use Rattle.vir_mean.specs.Elections.{IsElection};
+ghost use Rattle.vir_mean.specs.Neutrality.{IsRenaming, renamed_set, renamed_lines};
 ghost use Rattle.vir_mean.specs.Compositions.{turn};
 ghost use Rattle.vir_mean.specs.Meaning.{mean};
 ghost use Rattle.vir_mean.specs.Properties.{Holds};
@@ -24,22 +26,39 @@ pub fn nothing_is_split_into_nothing()
         → mean t set.empty lines ≡ record { elected = set.empty; rejected = set.empty; deferred = set.empty } }
 {}
 
-/// A loop is one turn, and then the loop again: no number of turns cuts it short.
+/// A loop, of either kind, is one turn, and then the loop again: no number of turns cuts it short.
 pub fn loop_goes_by_turns()
-    ensures { (k : ℕ) (body : Tree) (a : Set) (lines : List Entry)
+    ensures { (k : End) (body : Tree) (a : Set) (lines : List Entry)
         → mean (loop k body) a lines ≡ turn k (mean body) (mean (loop k body)) a lines }
 {}
 
 /// A loop leaves a set of as many alternatives as it is to end with as it is.
 pub fn loop_of_k_alternatives_stops()
     ensures { (k : ℕ) (body : Tree) (a : Set) (lines : List Entry)
-        → set.len a ≡ k → mean (loop k body) a lines ≡ all_deferred a lines }
+        → set.len a ≡ k → mean (loop (exactly k) body) a lines ≡ all_deferred a lines }
+{}
+
+/// And one that is to end with that many or fewer leaves a set of that many or fewer as it is.
+pub fn until_of_few_alternatives_stops()
+    ensures { (k : ℕ) (body : Tree) (a : Set) (lines : List Entry)
+        → set.len a ≤ k → mean (loop (at_most k) body) a lines ≡ all_deferred a lines }
 {}
 
 /// A loop may defer fewer alternatives than it is to end with: a turn that leaves out more than one goes
 /// past that number, as `pass(1)` does on three alternatives where two are to be left.
 pub fn loop_may_stop_below_its_number()
-    ensures { Holds (Defers 2) (mean (loop 2 (leaf (PassFirst 1 [])))) → ⊥ }
+    ensures { Holds (Defers 2) (mean (loop (exactly 2) (leaf (PassFirst 1 [])))) → ⊥ }
+{}
+
+/// Where an election's alternatives get other names, from 1 on, it is an election still.
+pub fn renamed_elections_are_elections()
+    ensures { (f : ℕ → ℕ) (a : Set) (p : List Entry) → IsElection a p → IsRenaming f a
+        → IsElection (renamed_set f a) (renamed_lines f p) }
+{}
+
+/// A module with a fixed order of its own isn't neutral: `pass(1)` passes 1 of 1 and 2, under whatever names.
+pub fn passing_is_not_neutral()
+    ensures { Holds Neut (first_passed 1 []) → ⊥ }
 {}
 
 /// A line of a profile may be split into two with the same order, whose weights add up to that of the

@@ -20,6 +20,7 @@ mod bounds;
 mod by_pairs;
 mod compositions;
 mod elimination;
+mod ending;
 mod fixed_orders;
 mod laws;
 mod lift_laws;
@@ -38,6 +39,7 @@ pub use fixed_orders::first_members;
 pub use laws::{
     line_may_be_split, loop_goes_by_turns, loop_may_stop_below_its_number,
     loop_of_k_alternatives_stops, meanings_are_splits, nothing_is_split_into_nothing,
+    passing_is_not_neutral, renamed_elections_are_elections, until_of_few_alternatives_stops,
 };
 pub use lift_laws::{
     changed_score_raises_the_lifted, lifted_leader_by_condorcet_score, lifted_score_never_falls,

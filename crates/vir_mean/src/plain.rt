@@ -1,13 +1,14 @@
 // The meaning of a term, by recursion on it and by restricted ballots.
-ghost use Rattle.std.specs.Prelude.{◌≡◌, ◌<◌, ◌↔◌, ◌^◌, IsTrue, IfOk};
-ghost use Rattle.std.specs.FinSet as set;
+ghost use Rattle.std.specs.Prelude.{◌≡◌, ◌<◌, ◌^◌, IfOk};
 ghost use Rattle.vir_altset.specs.Splits.{IsSplitOf};
 ghost use Rattle.vir_profile.specs.Profiles.{restrict, total_weight};
 ghost use Rattle.vir_term.specs.Tree.{tree};
 ghost use Rattle.vir_mean.specs.Compositions.{joined, loop_of};
+ghost use Rattle.vir_mean.specs.Endings.{end_of};
 ghost use Rattle.vir_mean.specs.Meaning.{mean};
 
 use crate::compositions::{joined, merged, revised};
+use crate::ending::{Ending, ends_at};
 use crate::modules::{all_deferred, leaf_result};
 use crate::restriction::restricted_lines;
 use std::alloc::{AllocError, Global};
@@ -41,7 +42,8 @@ fn term_result(
             let other = term_result(alloc, second, lines, domain)?;
             Ok(merged(&one, &other))
         }
-        Term::Loop { k, body } => loop_result(alloc, *k, body, lines, domain),
+        Term::Loop { k, body } => loop_result(alloc, Ending::Exactly(*k), body, lines, domain),
+        Term::Until { k, body } => loop_result(alloc, Ending::AtMost(*k), body, lines, domain),
     }
 }
 
@@ -61,33 +63,26 @@ fn restricted_result(
     term_result(alloc, term, &restricted, domain)
 }
 
-// Whether the set has just k members.
-fn has_just(domain: &AltSet, k: u32) -> bool
-    ensures { IsTrue result ↔ (set.len domain.now ≡ k) }
-{
-    u32::from(domain.count()) == k
-}
-
 // The split that a loop gives.
 #[cycle(mean)]
 fn loop_result(
     alloc: Global,
-    k: u32,
+    ending: Ending,
     body: &Term,
     lines: &[Entry],
     domain: &AltSet,
 ) -> Result<Split, AllocError>
     requires { total_weight lines.now < 2 ^ 64 }
-    ensures { IfOk result (λ split. split ≡ loop_of k (mean (tree body.now)) domain.now lines.now) }
+    ensures { IfOk result (λ split. split ≡ loop_of (end_of ending) (mean (tree body.now)) domain.now lines.now) }
 {
-    if has_just(domain, k) {
+    if ends_at(ending, domain) {
         return Ok(all_deferred(domain));
     }
     let first = term_result(alloc, body, lines, domain)?;
     if first.deferred.equals(domain) {
         return Ok(first);
     }
-    further_turns(alloc, k, body, lines, first)
+    further_turns(alloc, ending, body, lines, first)
 }
 
 // What a loop makes of the split that its first turn gave: it goes on with what that defers. Each turn
@@ -95,18 +90,18 @@ fn loop_result(
 #[cycle(mean)]
 fn further_turns(
     alloc: Global,
-    k: u32,
+    ending: Ending,
     body: &Term,
     lines: &[Entry],
     first: Split,
 ) -> Result<Split, AllocError>
     requires { total_weight lines.now < 2 ^ 64 }
-    ensures { IfOk result (λ split. split ≡ joined first (loop_of k (mean (tree body.now)) first.deferred (restrict first.deferred lines.now))) }
+    ensures { IfOk result (λ split. split ≡ joined first (loop_of (end_of ending) (mean (tree body.now)) first.deferred (restrict first.deferred lines.now))) }
 {
     let most = first.deferred.count();
     let mut so_far = first;
     for _turn in 0..most {
-        if has_just(&so_far.deferred, k) {
+        if ends_at(ending, &so_far.deferred) {
             return Ok(so_far);
         }
         let next = restricted_result(alloc, body, lines, &so_far.deferred)?;

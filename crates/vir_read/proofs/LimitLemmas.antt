@@ -16,12 +16,14 @@ use Rattle.vir_read.specs.declared.built_in.Eliminator.{Eliminator}
 use Rattle.vir_read.specs.declared.built_in.Eliminator.TheVariants as eliminator
 use Rattle.vir_read.specs.declared.built_in.Pair.{Pair}
 use Rattle.vir_read.specs.declared.built_in.Pair.TheVariants as pair
+use Rattle.vir_read.specs.declared.built_in.LoopEnd.{LoopEnd}
+use Rattle.vir_read.specs.declared.built_in.LoopEnd.TheVariants as loop_end
 use Rattle.vir_term.specs.declared.score.Score.{Score}
 use Rattle.vir_read.specs.Faults.{OrFault, ◌>>=◌}
 use Rattle.vir_read.specs.RawTrees.{RawTree, RawTrees, word, number, bracket, none, more, list_of}
 use Rattle.vir_read.specs.BuiltIns.{built_in_named, takes, is_only_score}
 use Rattle.vir_read.specs.Arguments.{Names, AreWithinLimits, span, value_at, ranged, count_of, unrepeated, with_member, with_members, order_of, score_of}
-use Rattle.vir_read.specs.Typing.{Argument, ordered_leaf, plain_leaf, eliminator_leaf, pair_tree, composed, built_in, defined, word_typed, typed, arguments_of, sized, term_of}
+use Rattle.vir_read.specs.Typing.{Argument, ordered_leaf, plain_leaf, eliminator_leaf, pair_tree, end_of, composed, built_in, defined, word_typed, typed, arguments_of, sized, term_of}
 use Rattle.vir_read.proofs.TypingLemmas.{ranged_ok, order_more}
 use Rattle.std.specs.List.{list_any}
 use Rattle.std.specs.Prelude.{nat_eq}
@@ -108,8 +110,9 @@ eliminator_kept level eliminator.Upto s h = record { flat = omega arith; in_rang
 rev_kept : (level : ℕ) (t : Tree) → IsKept (level + 1) t → IsKept level (rev t)
 rev_kept level t k = let f = k.flat in record { flat = omega arith; in_range = k.in_range }
 
-loop_kept : (level k : ℕ) (t : Tree) → IsCount k → IsKept (level + 1) t → IsKept level (loop k t)
-loop_kept level n t c k = let f = k.flat in record { flat = omega arith; in_range = (c, k.in_range) }
+loop_kept : (level : ℕ) (e : LoopEnd) (k : ℕ) (t : Tree) → IsCount k → IsKept (level + 1) t → IsKept level (loop (end_of e k) t)
+loop_kept level loop_end.Exactly n t c k = let f = k.flat in record { flat = omega arith; in_range = (c, k.in_range) }
+loop_kept level loop_end.AtMost n t c k = let f = k.flat in record { flat = omega arith; in_range = (c, k.in_range) }
 
 pair_kept : (level : ℕ) (p : Pair) (s t : Tree) → IsKept (level + 1) s → IsKept (level + 1) t → IsKept level (pair_tree p s t)
 pair_kept level pair.Seq s t k j = let f = k.flat in let g = j.flat in record { flat = omega arith; in_range = (k.in_range, j.in_range) }
@@ -143,11 +146,11 @@ module _ (text : List ℕ) (names : Names) (at level : ℕ) (flat : level ≤ ne
       let d = bind_ok (n.term (level + 1)) (λ second. Ok (pair_tree p b.0 second)) t b.2 in
       kept_as level (pair_tree p b.0 d.0) t (pair_kept level p b.0 d.0 (k.0 (level + 1) b.0 b.1) (k.1.0 (level + 1) d.0 d.1)) d.2
 
-  loop_of_kept : (k m : Argument) (t : Tree) → AreKept (k ∷ m ∷ []) → composed text names at level word'.Loop (k ∷ m ∷ []) ≡ Ok t → IsKept level t
-  loop_of_kept n m t k h =
-      let b = bind_ok (count_of text n.tree) (λ k. m.term (level + 1) >>= λ body. Ok (loop k body)) t h in
-      let d = bind_ok (m.term (level + 1)) (λ body. Ok (loop b.0 body)) t b.2 in
-      kept_as level (loop b.0 d.0) t (loop_kept level b.0 d.0 (count_of_ok text n.tree b.0 b.1) (k.1.0 (level + 1) d.0 d.1)) d.2
+  loop_of_kept : (e : LoopEnd) (k m : Argument) (t : Tree) → AreKept (k ∷ m ∷ []) → composed text names at level (word'.Loop e) (k ∷ m ∷ []) ≡ Ok t → IsKept level t
+  loop_of_kept e n m t k h =
+      let b = bind_ok (count_of text n.tree) (λ k. m.term (level + 1) >>= λ body. Ok (loop (end_of e k) body)) t h in
+      let d = bind_ok (m.term (level + 1)) (λ body. Ok (loop (end_of e b.0) body)) t b.2 in
+      kept_as level (loop (end_of e b.0) d.0) t (loop_kept level e b.0 d.0 (count_of_ok text n.tree b.0 b.1) (k.1.0 (level + 1) d.0 d.1)) d.2
 
   composed_kept : (w : BuiltIn) (arguments : List Argument) (t : Tree) → AreKept arguments → composed text names at level w arguments ≡ Ok t → IsKept level t
   composed_kept (word'.Plain m) [] t k h = kept_as level (leaf (plain_leaf m)) t (plain_kept level m flat) h
@@ -166,10 +169,10 @@ module _ (text : List ℕ) (names : Names) (at level : ℕ) (flat : level ≤ ne
   composed_kept (word'.Pair p) (a ∷ []) t k h = cc
   composed_kept (word'.Pair p) (a ∷ b ∷ []) t k h = pair_of_kept p a b t k h
   composed_kept (word'.Pair p) (a ∷ b ∷ c ∷ rest) t k h = cc
-  composed_kept word'.Loop [] t k h = cc
-  composed_kept word'.Loop (a ∷ []) t k h = cc
-  composed_kept word'.Loop (a ∷ b ∷ []) t k h = loop_of_kept a b t k h
-  composed_kept word'.Loop (a ∷ b ∷ c ∷ rest) t k h = cc
+  composed_kept (word'.Loop e) [] t k h = cc
+  composed_kept (word'.Loop e) (a ∷ []) t k h = cc
+  composed_kept (word'.Loop e) (a ∷ b ∷ []) t k h = loop_of_kept e a b t k h
+  composed_kept (word'.Loop e) (a ∷ b ∷ c ∷ rest) t k h = cc
   composed_kept (word'.OnlyScore s) arguments t k h = cc
 
 built_in_kept : (text : List ℕ) (names : Names) (at level : ℕ) (w : BuiltIn) (arguments : List Argument) (t : Tree)

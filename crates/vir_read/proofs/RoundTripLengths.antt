@@ -13,7 +13,7 @@ use Rattle.vir_term.specs.declared.score.Score.TheVariants as score
 use Rattle.vir_term.specs.Orders.{member_limit, order_fault, order_fault_after}
 use Rattle.vir_term.specs.Limits.{IsCount, IsLeafInRange, IsInRange, count_limit}
 use Rattle.vir_term.specs.Text.{score_text, more_text, order_text, leaf_text, term_text}
-use Rattle.vir_term.specs.Tree.{Tree, leaf, rev, seq, par, loop, size}
+use Rattle.vir_term.specs.Tree.{Tree, leaf, rev, seq, par, loop, exactly, at_most, size}
 use Rattle.vir_read.specs.Printed.{part_length}
 use Rattle.vir_read.proofs.RoundTripTyping.{no_fault, member_is_small}
 
@@ -126,4 +126,5 @@ length-term_text (leaf l) r = omega (arith, length-leaf_text l r)
 length-term_text (rev part) r = omega (arith, length-append (term_text part) (41 ∷ []), length-term_text part r)
 length-term_text (seq first second) r = omega (arith, length-two (term_text first) (term_text second), length-term_text first r.0, length-term_text second r.1)
 length-term_text (par first second) r = omega (arith, length-two (term_text first) (term_text second), length-term_text first r.0, length-term_text second r.1)
-length-term_text (loop k body) r = omega (arith, length-two (decimal k) (term_text body), length-count k r.0.few, length-term_text body r.1)
+length-term_text (loop (exactly k) body) r = omega (arith, length-two (decimal k) (term_text body), length-count k r.0.few, length-term_text body r.1)
+length-term_text (loop (at_most k) body) r = omega (arith, length-two (decimal k) (term_text body), length-count k r.0.few, length-term_text body r.1)

@@ -16,7 +16,7 @@ use Rattle.vir_term.specs.declared.score.Score.TheVariants as score
 use Rattle.vir_term.specs.Orders.{member_limit, order_fault_after}
 use Rattle.vir_term.specs.Limits.{IsCount, IsLeafInRange, IsInRange, count_limit}
 use Rattle.vir_term.specs.Text.{score_text, more_text, order_text, leaf_text, term_text}
-use Rattle.vir_term.specs.Tree.{Tree, leaf, rev, seq, par, loop}
+use Rattle.vir_term.specs.Tree.{Tree, leaf, rev, seq, par, loop, exactly, at_most}
 use Rattle.vir_read.specs.declared.token.Token.{Token}
 use Rattle.vir_read.specs.declared.token.TokenKind.TheVariants as kind
 use Rattle.vir_read.specs.Tokens.{is_blank, is_letter, is_digit, is_sign, is_comment_sign, is_word_byte, run, token, with_token, tokens_from}
@@ -279,7 +279,8 @@ apart-term (leaf l) r = apart-leaf l r
 apart-term (rev part) r = apart-of (codes "rev") (term_pieces part) (refl, refl) (apart-term part r)
 apart-term (seq first second) r = apart-of_two (codes "seq") (term_pieces first) (term_pieces second) (refl, refl) (apart-term first r.0) (apart-term second r.1)
 apart-term (par first second) r = apart-of_two (codes "par") (term_pieces first) (term_pieces second) (refl, refl) (apart-term first r.0) (apart-term second r.1)
-apart-term (loop k body) r = apart-of_two (codes "loop") (digits k ∷ []) (term_pieces body) (refl, refl) (apart-number k r.0.few) (apart-term body r.1)
+apart-term (loop (exactly k) body) r = apart-of_two (codes "loop") (digits k ∷ []) (term_pieces body) (refl, refl) (apart-number k r.0.few) (apart-term body r.1)
+apart-term (loop (at_most k) body) r = apart-of_two (codes "until") (digits k ∷ []) (term_pieces body) (refl, refl) (apart-number k r.0.few) (apart-term body r.1)
 
 -- ---- the text of a term is that of its pieces
 
@@ -333,8 +334,10 @@ text-term (seq first second) =
     ap (λ y. codes "seq(" ++ y) (text-of_two (term_text first) (term_text second) (term_pieces first) (term_pieces second) (text-term first) (text-term second))
 text-term (par first second) =
     ap (λ y. codes "par(" ++ y) (text-of_two (term_text first) (term_text second) (term_pieces first) (term_pieces second) (text-term first) (text-term second))
-text-term (loop k body) =
+text-term (loop (exactly k) body) =
     ap (λ y. codes "loop(" ++ y) (two_in_a_row (decimal k) (term_text body) ∙ ap (λ z. decimal k ++ 44 ∷ z) (text-of (term_text body) (term_pieces body) (text-term body)))
+text-term (loop (at_most k) body) =
+    ap (λ y. codes "until(" ++ y) (two_in_a_row (decimal k) (term_text body) ∙ ap (λ z. decimal k ++ 44 ∷ z) (text-of (term_text body) (term_pieces body) (text-term body)))
 
 -- the tokens of a term that stands in a text
 pub tokens-term : (t : Tree) (before after : List ℕ) → IsInRange t → run is_word_byte after ≡ 0 →

@@ -5,7 +5,7 @@ use Rattle.vir_term.specs.declared.score.Score.{Score}
 use Rattle.vir_term.specs.declared.leaf.Leaf.{Leaf}
 use Rattle.vir_term.specs.declared.leaf.Leaf.TheVariants.{Elect, Defer, PassFirst, DropFirst, Plurality, Max, Min, Below, Upto}
 use Rattle.vir_term.specs.Text.{score_text}
-use Rattle.vir_term.specs.Tree.{Tree, leaf, rev, seq, par, loop, nesting}
+use Rattle.vir_term.specs.Tree.{Tree, leaf, rev, seq, par, loop, exactly, at_most, nesting}
 use Rattle.vir_read.specs.declared.token.Token.{Token}
 use Rattle.vir_read.specs.declared.symbol.Symbol.{Symbol}
 use Rattle.vir_read.specs.declared.symbol.Symbol.TheVariants.{Word, Number, OpenParenthesis, CloseParenthesis, OpenBracket, CloseBracket, Comma, Semicolon, Equals}
@@ -292,9 +292,15 @@ module _ (text : List ℕ) where
       (readable-of_two (codes "par") (term_pieces first) (term_pieces second) need First Second
       (roomier (term_pieces first) (nesting first + 1) need First (omega arith) (readable-term first))
       (roomier (term_pieces second) (nesting second + 1) need Second (omega arith) (readable-term second)))
-  readable-term (loop k body) =
+  readable-term (loop (exactly k) body) =
       let Body : RawTree → Type 0 = Spells text body in
-      let Whole : RawTree → Type 0 = Spells text (loop k body) in
-      roomier (term_pieces (loop k body)) (nesting body + 1 + 1) (nesting (loop k body) + 1) Whole (omega arith)
+      let Whole : RawTree → Type 0 = Spells text (loop (exactly k) body) in
+      roomier (term_pieces (loop (exactly k) body)) (nesting body + 1 + 1) (nesting (loop (exactly k) body) + 1) Whole (omega arith)
       (readable-of_two (codes "loop") (digits k ∷ []) (term_pieces body) (nesting body + 1) (IsNumber text k) Body
+      (readable-number k (nesting body + 1)) (readable-term body))
+  readable-term (loop (at_most k) body) =
+      let Body : RawTree → Type 0 = Spells text body in
+      let Whole : RawTree → Type 0 = Spells text (loop (at_most k) body) in
+      roomier (term_pieces (loop (at_most k) body)) (nesting body + 1 + 1) (nesting (loop (at_most k) body) + 1) Whole (omega arith)
+      (readable-of_two (codes "until") (digits k ∷ []) (term_pieces body) (nesting body + 1) (IsNumber text k) Body
       (readable-number k (nesting body + 1)) (readable-term body))

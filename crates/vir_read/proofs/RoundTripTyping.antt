@@ -16,7 +16,7 @@ use Rattle.vir_term.specs.declared.score.Score.TheVariants as score
 use Rattle.vir_term.specs.Orders.{member_limit, order_fault_after}
 use Rattle.vir_term.specs.Limits.{IsCount, IsLeafInRange, IsInRange, count_limit, nesting_limit}
 use Rattle.vir_term.specs.Text.{score_text}
-use Rattle.vir_term.specs.Tree.{Tree, leaf, rev, seq, par, loop, nesting}
+use Rattle.vir_term.specs.Tree.{Tree, leaf, rev, seq, par, loop, exactly, at_most, nesting}
 use Rattle.vir_read.specs.Faults.{◌>>=◌}
 use Rattle.vir_read.specs.RawTrees.{RawTree, RawTrees, none, more, list_of}
 use Rattle.vir_read.specs.BuiltIns.{built_in_named, score_named}
@@ -138,6 +138,9 @@ module _ (text : List ℕ) (names : Names) where
   typed-spelled (par first second) raw level w r h =
       typed-word raw (codes "par") (more w.0 (more w.1 none)) level w.2
       ∙ rw (level_is_low level (omega arith), typed-spelled first w.0 (level + 1) w.3 r.0 (omega arith), typed-spelled second w.1 (level + 1) w.4 r.1 (omega arith)) refl
-  typed-spelled (loop k body) raw level w r h =
+  typed-spelled (loop (exactly k) body) raw level w r h =
       typed-word raw (codes "loop") (more w.0 (more w.1 none)) level w.2
+      ∙ rw (level_is_low level (omega arith), count_of-number w.0 k w.3 r.0, typed-spelled body w.1 (level + 1) w.4 r.1 (omega arith)) refl
+  typed-spelled (loop (at_most k) body) raw level w r h =
+      typed-word raw (codes "until") (more w.0 (more w.1 none)) level w.2
       ∙ rw (level_is_low level (omega arith), count_of-number w.0 k w.3 r.0, typed-spelled body w.1 (level + 1) w.4 r.1 (omega arith)) refl

@@ -3,12 +3,14 @@ use Rattle.std.specs.Prelude.{ℕ, Bool, true, false, ◌||◌, ◌==◌, List, 
 use Rattle.std.specs.Str.{bytes_eq}
 use Rattle.vir_term.specs.declared.score.Score.{Score}
 use Rattle.vir_term.specs.declared.score.Score.TheVariants as score
+use Rattle.vir_term.specs.Tree.{End, exactly, at_most}
 use Rattle.vir_read.specs.declared.built_in.BuiltIn.{BuiltIn}
 use Rattle.vir_read.specs.declared.built_in.BuiltIn.TheVariants as word
 use Rattle.vir_read.specs.declared.built_in.Plain.TheVariants as plain
 use Rattle.vir_read.specs.declared.built_in.Ordered.TheVariants as ordered
 use Rattle.vir_read.specs.declared.built_in.Eliminator.TheVariants as eliminator
 use Rattle.vir_read.specs.declared.built_in.Pair.TheVariants as pair
+use Rattle.vir_read.specs.declared.built_in.LoopEnd.TheVariants as loop_end
 
 -- the score that a word names
 abbrev pub score_named : List ℕ → Option Score
@@ -29,8 +31,9 @@ composition_named name =
     if bytes_eq name (codes "rev") then Some word.Rev
     else (if bytes_eq name (codes "seq") then Some (word.Pair pair.Seq)
     else (if bytes_eq name (codes "par") then Some (word.Pair pair.Par)
-    else (if bytes_eq name (codes "loop") then Some word.Loop
-    else only_score (score_named name))))
+    else (if bytes_eq name (codes "loop") then Some (word.Loop loop_end.Exactly)
+    else (if bytes_eq name (codes "until") then Some (word.Loop loop_end.AtMost)
+    else only_score (score_named name)))))
 
 abbrev pub module_named : List ℕ → Option BuiltIn
 module_named name =
@@ -57,10 +60,15 @@ takes (word.Ordered _) n = n == 1 || n == 2
 takes (word.Eliminator _) n = n == 1
 takes word.Rev n = n == 1
 takes (word.Pair _) n = n == 2
-takes word.Loop n = n == 2
+takes (word.Loop _) n = n == 2
 takes (word.OnlyScore _) n = false
 
 -- whether it is a score and no term
 abbrev pub is_only_score : BuiltIn → Bool
 is_only_score (word.OnlyScore _) = true
 is_only_score _ = false
+
+-- the word of a loop, by where it ends
+abbrev pub loop_name : End → List ℕ
+loop_name (exactly k) = codes "loop"
+loop_name (at_most k) = codes "until"

@@ -3,7 +3,8 @@ use Rattle.std.specs.Prelude.{ℕ, ◌≡◌, List, [], ◌∷◌, ◌++◌, Som
 use Rattle.vir_term.specs.declared.leaf.Leaf.{Leaf}
 use Rattle.vir_term.specs.declared.leaf.Leaf.TheVariants.{Elect, Defer, PassFirst, DropFirst, Plurality, Max, Min, Below, Upto}
 use Rattle.vir_term.specs.Text.{score_text}
-use Rattle.vir_term.specs.Tree.{Tree, leaf, rev, seq, par, loop}
+use Rattle.vir_read.specs.BuiltIns.{loop_name}
+use Rattle.vir_term.specs.Tree.{Tree, leaf, rev, seq, par, loop, number_of}
 use Rattle.vir_read.specs.declared.token.Token.{Token}
 use Rattle.vir_read.specs.declared.token.TokenKind.TheVariants as kind
 use Rattle.vir_read.specs.Faults.{OrFault}
@@ -72,7 +73,7 @@ term_pieces (leaf l) = leaf_pieces l
 term_pieces (rev part) = pieces_of (codes "rev") (term_pieces part)
 term_pieces (seq first second) = pieces_of_two (codes "seq") (term_pieces first) (term_pieces second)
 term_pieces (par first second) = pieces_of_two (codes "par") (term_pieces first) (term_pieces second)
-term_pieces (loop k body) = pieces_of_two (codes "loop") (digits k ∷ []) (term_pieces body)
+term_pieces (loop k body) = pieces_of_two (loop_name k) (digits (number_of k) ∷ []) (term_pieces body)
 
 -- these tokens, and then those
 abbrev pub with_tokens : List Token → OrFault (List Token) → OrFault (List Token)

@@ -4,7 +4,8 @@ use Rattle.vir_term.specs.declared.score.Score.{Score}
 use Rattle.vir_term.specs.declared.leaf.Leaf.{Leaf}
 use Rattle.vir_term.specs.declared.leaf.Leaf.TheVariants.{Elect, Defer, PassFirst, DropFirst, Plurality, Max, Min, Below, Upto}
 use Rattle.vir_term.specs.Text.{score_text}
-use Rattle.vir_term.specs.Tree.{Tree, leaf, rev, seq, par, loop}
+use Rattle.vir_term.specs.Tree.{Tree, leaf, rev, seq, par, loop, number_of}
+use Rattle.vir_read.specs.BuiltIns.{loop_name}
 use Rattle.vir_read.specs.RawTrees.{RawTree, RawTrees, word, number, bracket, none, more}
 use Rattle.vir_read.specs.Arguments.{span}
 
@@ -72,4 +73,4 @@ Spells text (leaf l) raw = SpellsLeaf text l raw
 Spells text (rev part) raw = IsOf text (codes "rev") (Spells text part) raw
 Spells text (seq first second) raw = IsOfTwo text (codes "seq") (Spells text first) (Spells text second) raw
 Spells text (par first second) raw = IsOfTwo text (codes "par") (Spells text first) (Spells text second) raw
-Spells text (loop k body) raw = IsOfTwo text (codes "loop") (IsNumber text k) (Spells text body) raw
+Spells text (loop k body) raw = IsOfTwo text (loop_name k) (IsNumber text (number_of k)) (Spells text body) raw

@@ -3,7 +3,7 @@ use Rattle.std.specs.Prelude.{ℕ, ◌+◌, ◌==◌, List, [], ◌∷◌, lengt
 use Rattle.vir_term.specs.declared.score.Score.{Score}
 use Rattle.vir_term.specs.declared.leaf.Leaf.{Leaf}
 use Rattle.vir_term.specs.declared.leaf.Leaf.TheVariants as leaf'
-use Rattle.vir_term.specs.Tree.{Tree, leaf, rev, seq, par, loop, nesting, size}
+use Rattle.vir_term.specs.Tree.{Tree, leaf, rev, seq, par, loop, End, exactly, at_most, nesting, size}
 use Rattle.vir_term.specs.Limits.{nesting_limit, size_limit}
 use Rattle.vir_read.specs.declared.text_fault.TextKind.TheVariants.{UnknownName, WrongCountOfArguments, WrongSort, TooDeep, TooLarge}
 use Rattle.vir_read.specs.declared.built_in.BuiltIn.{BuiltIn}
@@ -16,6 +16,8 @@ use Rattle.vir_read.specs.declared.built_in.Eliminator.{Eliminator}
 use Rattle.vir_read.specs.declared.built_in.Eliminator.TheVariants as eliminator
 use Rattle.vir_read.specs.declared.built_in.Pair.{Pair}
 use Rattle.vir_read.specs.declared.built_in.Pair.TheVariants as pair
+use Rattle.vir_read.specs.declared.built_in.LoopEnd.{LoopEnd}
+use Rattle.vir_read.specs.declared.built_in.LoopEnd.TheVariants as loop_end
 use Rattle.vir_read.specs.Faults.{OrFault, ◌>>=◌, fault}
 use Rattle.vir_read.specs.RawTrees.{RawTree, RawTrees, word, number, bracket, none, more}
 use Rattle.vir_read.specs.BuiltIns.{built_in_named, takes, is_only_score}
@@ -45,6 +47,10 @@ abbrev pub pair_tree : Pair → Tree → Tree → Tree
 pair_tree pair.Seq first second = seq first second
 pair_tree pair.Par first second = par first second
 
+abbrev pub end_of : LoopEnd → ℕ → End
+end_of loop_end.Exactly k = exactly k
+end_of loop_end.AtMost k = at_most k
+
 -- The arguments are judged from left to right, each whole before the next. A term among them stands a level below.
 abbrev pub composed : List ℕ → Names → ℕ → ℕ → BuiltIn → List Argument → OrFault Tree
 composed text names at level (word'.Plain m) [] = Ok (leaf (plain_leaf m))
@@ -55,7 +61,7 @@ composed text names at level (word'.Eliminator m) (s ∷ []) = score_of text nam
 composed text names at level word'.Rev (m ∷ []) = m.term (level + 1) >>= λ m. Ok (rev m)
 composed text names at level (word'.Pair composition) (m ∷ n ∷ []) =
     m.term (level + 1) >>= λ first. n.term (level + 1) >>= λ second. Ok (pair_tree composition first second)
-composed text names at level word'.Loop (k ∷ m ∷ []) = count_of text k.tree >>= λ k. m.term (level + 1) >>= λ body. Ok (loop k body)
+composed text names at level (word'.Loop end) (k ∷ m ∷ []) = count_of text k.tree >>= λ k. m.term (level + 1) >>= λ body. Ok (loop (end_of end k) body)
 composed text names at level _ _ = Err (fault WrongCountOfArguments at)
 
 -- A built-in word: first it must be no score, then have as many arguments as it takes, then be not too deep.

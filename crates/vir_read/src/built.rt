@@ -3,10 +3,10 @@
 ghost use Rattle.std.specs.Prelude.{◌≡◌, ◌∷◌, [], length, MatchOption, Ok};
 ghost use Rattle.vir_term.specs.Tree.{Tree, tree, leaf, rev, loop};
 ghost use Rattle.vir_read.specs.RawTrees.{raw_tree, listed};
-ghost use Rattle.vir_read.specs.Typing.{pair_tree};
+ghost use Rattle.vir_read.specs.Typing.{pair_tree, end_of};
 ghost use Rattle.vir_read.specs.Built.{IsKeptOf, Builds};
 
-use crate::built_in::Pair;
+use crate::built_in::{LoopEnd, Pair};
 use crate::raw::{Raw, RawList};
 use crate::text_fault::TextError;
 use std::alloc::Global;
@@ -51,8 +51,18 @@ pub fn rev_built(alloc: Global, part: Built) -> Result<Built, TextError>
 }
 
 // A composition of a number and a term.
-pub fn loop_built(alloc: Global, k: u32, body: Built) -> Result<Built, TextError>
-    ensures { (t : Tree) → IsKeptOf body t → Builds result (Ok (loop k t)) }
+fn loop_term(end: LoopEnd, k: u32, body: Box<Term>) -> Term
+    ensures { tree result ≡ loop (end_of end k) (tree body.value) }
+{
+    match end {
+        LoopEnd::Exactly => Term::Loop { k, body },
+        LoopEnd::AtMost => Term::Until { k, body },
+    }
+}
+
+// The same of what is kept of the term.
+pub fn loop_built(alloc: Global, end: LoopEnd, k: u32, body: Built) -> Result<Built, TextError>
+    ensures { (t : Tree) → IsKeptOf body t → Builds result (Ok (loop (end_of end k) t)) }
 {
     let Built::Small { term, size } = body else {
         return Ok(Built::Large);
@@ -62,7 +72,7 @@ pub fn loop_built(alloc: Global, k: u32, body: Built) -> Result<Built, TextError
     }
     match Box::new(alloc, term) {
         Ok(body) => Ok(Built::Small {
-            term: Term::Loop { k, body },
+            term: loop_term(end, k, body),
             size: size + 1,
         }),
         Err(_) => Err(TextError::Memory),

@@ -18,7 +18,7 @@ pub enum BuiltIn {
     /// A composition of two terms.
     Pair(Pair),
     /// A composition of a number and a term.
-    Loop,
+    Loop(LoopEnd),
     /// A score that isn't a module as well.
     OnlyScore(Score),
 }
@@ -54,6 +54,13 @@ pub enum Pair {
     Par,
 }
 
+/// Where a composition of a number and a term ends: at just so many alternatives, or at so many or fewer.
+#[derive(Clone, Copy, Debug, PartialEq, Eq)]
+pub enum LoopEnd {
+    Exactly,
+    AtMost,
+}
+
 impl BuiltIn {
     /// Whether the word may have so many arguments.
     pub fn takes(self, count: usize) -> bool
@@ -63,7 +70,7 @@ impl BuiltIn {
             BuiltIn::Plain(_) => count == 0,
             BuiltIn::Ordered(_) => count == 1 || count == 2,
             BuiltIn::Eliminator(_) | BuiltIn::Rev => count == 1,
-            BuiltIn::Pair(_) | BuiltIn::Loop => count == 2,
+            BuiltIn::Pair(_) | BuiltIn::Loop(_) => count == 2,
             BuiltIn::OnlyScore(_) => false,
         }
     }
@@ -130,7 +137,9 @@ fn composition_named(name: &[u8]) -> Option<BuiltIn>
     } else if is(name, "par") {
         Some(BuiltIn::Pair(Pair::Par))
     } else if is(name, "loop") {
-        Some(BuiltIn::Loop)
+        Some(BuiltIn::Loop(LoopEnd::Exactly))
+    } else if is(name, "until") {
+        Some(BuiltIn::Loop(LoopEnd::AtMost))
     } else {
         score_named(name).map(BuiltIn::OnlyScore)
     }

@@ -12,7 +12,7 @@ ghost use Rattle.vir_read.specs.Built.{Builds};
 
 use crate::arguments::{count_of, order_of, score_of, span};
 use crate::built::{Built, leaf_built, loop_built, one, pair_built, rev_built, two};
-use crate::built_in::{BuiltIn, Eliminator, Ordered, Pair, Plain, built_in_named};
+use crate::built_in::{BuiltIn, Eliminator, LoopEnd, Ordered, Pair, Plain, built_in_named};
 use crate::names::Names;
 use crate::raw::{Raw, RawList};
 use crate::text_fault::{TextError, TextKind};
@@ -169,6 +169,7 @@ fn rev_of<M: Names>(
 fn loop_of<M: Names>(
     alloc: Global,
     text: &[u8],
+    end: LoopEnd,
     parts: &RawList,
     names: &M,
     level: u32,
@@ -177,12 +178,12 @@ fn loop_of<M: Names>(
     requires two { length (listed parts.now) ≡ 2 }
     requires level { level ≤ nesting_limit }
     requires names { AreWithinLimits (M.meaning names.now) }
-    ensures { Builds result (composed text.now (M.meaning names.now) at level BuiltIn.Loop (arguments_of text.now (M.meaning names.now) (gathered (listed parts.now)))) }
+    ensures { Builds result (composed text.now (M.meaning names.now) at level (BuiltIn.Loop end) (arguments_of text.now (M.meaning names.now) (gathered (listed parts.now)))) }
 {
     match two(parts) {
         Some((k, body)) => match count_of(text, k) {
             Ok(k) => match typed(alloc, text, body, names, level + 1) {
-                Ok(body) => loop_built(alloc, k, body),
+                Ok(body) => loop_built(alloc, end, k, body),
                 Err(e) => Err(e),
             },
             Err(e) => Err(e),
@@ -242,7 +243,7 @@ fn composed<M: Names>(
         }
         BuiltIn::Rev => rev_of(alloc, text, parts, names, level, at),
         BuiltIn::Pair(pair) => pair_of(alloc, text, pair, parts, names, level, at),
-        BuiltIn::Loop => loop_of(alloc, text, parts, names, level, at),
+        BuiltIn::Loop(end) => loop_of(alloc, text, end, parts, names, level, at),
         BuiltIn::OnlyScore(_) => unreachable!(),
     }
 }

@@ -38,6 +38,7 @@ pub fn push_prop(text: &mut Vec<u8>, prop: Prop) -> Result<(), AllocError>
         Prop::Dcc => text.extend_from_slice(b"dcc"),
         Prop::Cprog => text.extend_from_slice(b"cprog"),
         Prop::Ccomp => text.extend_from_slice(b"ccomp"),
+        Prop::Neut => text.extend_from_slice(b"neut"),
     }
 }
 

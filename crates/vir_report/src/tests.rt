@@ -30,6 +30,7 @@ const PROPS: &[(Prop, &[u8])] = &[
     (Prop::Dcc, b"dcc"),
     (Prop::Cprog, b"cprog"),
     (Prop::Ccomp, b"ccomp"),
+    (Prop::Neut, b"neut"),
 ];
 
 #[test]

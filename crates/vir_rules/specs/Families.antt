@@ -5,7 +5,7 @@ use Rattle.vir_term.specs.declared.score.Score.TheVariants.{Plurality as First, 
 use Rattle.vir_term.specs.declared.leaf.LeafKind.{LeafKind}
 use Rattle.vir_term.specs.declared.leaf.LeafKind.TheVariants.{Elect, Defer, PassFirst, DropFirst, Plurality, Max, Min, Below, Upto}
 use Rattle.vir_rules.specs.declared.row.Family.{Family}
-use Rattle.vir_rules.specs.declared.row.Family.TheVariants.{ElectingNobody, ElectingAll, ElectingSome, KeepingSome, Dropping, Unscored, Leading, Eliminating, Winning, Progressing, Deferring}
+use Rattle.vir_rules.specs.declared.row.Family.TheVariants.{ElectingNobody, ElectingAll, ElectingSome, KeepingSome, Dropping, Unscored, Leading, Eliminating, Winning, Progressing, Deferring, Unordered}
 
 -- whether a module eliminates by a score
 abbrev pub is_eliminator : LeafKind → Bool
@@ -64,3 +64,6 @@ is_of Progressing (Upto s) = is_above_average s
 is_of Progressing _ = false
 is_of Deferring Defer = true
 is_of Deferring _ = false
+is_of Unordered PassFirst = false
+is_of Unordered DropFirst = false
+is_of Unordered _ = true

@@ -3,12 +3,12 @@ use Rattle.std.specs.Prelude.{ℕ, Bool, true, false, nat_eq}
 use Rattle.vir_term.specs.declared.leaf.Leaf.{Leaf}
 use Rattle.vir_term.specs.declared.leaf.Leaf.TheVariants.{PassFirst, DropFirst}
 use Rattle.vir_term.specs.Kinds.{kind_of}
-use Rattle.vir_term.specs.Tree.{Tree}
+use Rattle.vir_term.specs.Tree.{Tree, End, exactly, at_most}
 use Rattle.vir_term.specs.Tree as tree
 use Rattle.vir_rules.specs.declared.form.Form.{Form as Borrowed}
 use Rattle.vir_rules.specs.declared.form.Form.TheVariants as borrowed
 use Rattle.vir_rules.specs.declared.row.Shape.{Shape}
-use Rattle.vir_rules.specs.declared.row.Shape.TheVariants.{Any, ModuleOf, PassK, DropK, Rev, Seq, Par, Loop, LoopK, LoopOne}
+use Rattle.vir_rules.specs.declared.row.Shape.TheVariants.{Any, ModuleOf, PassK, DropK, Rev, Seq, Par, Loop, LoopK, LoopOne, Until, UntilK, UntilOne}
 use Rattle.vir_rules.specs.Families.{is_of}
 
 -- a term without its parts
@@ -17,7 +17,7 @@ pub data Form : Type 0 where
   rev : Form
   seq : Form
   par : Form
-  loop : ℕ → Form
+  loop : End → Form
 
 -- the outermost form of a term
 abbrev pub form_of : Tree → Form
@@ -52,9 +52,12 @@ is_shaped DropK k (leaf (DropFirst j order)) = nat_eq j k
 is_shaped Rev k rev = true
 is_shaped Seq k seq = true
 is_shaped Par k par = true
-is_shaped Loop k (loop j) = true
-is_shaped LoopK k (loop j) = nat_eq j k
-is_shaped LoopOne k (loop j) = nat_eq j 1
+is_shaped Loop k (loop (exactly j)) = true
+is_shaped LoopK k (loop (exactly j)) = nat_eq j k
+is_shaped LoopOne k (loop (exactly j)) = nat_eq j 1
+is_shaped Until k (loop (at_most j)) = true
+is_shaped UntilK k (loop (at_most j)) = nat_eq j k
+is_shaped UntilOne k (loop (at_most j)) = nat_eq j 1
 is_shaped _ k _ = false
 
 -- a form of the code, which borrows its module
@@ -63,4 +66,5 @@ form_seen (borrowed.Leaf l) = leaf l.now
 form_seen borrowed.Rev = rev
 form_seen borrowed.Seq = seq
 form_seen borrowed.Par = par
-form_seen (borrowed.Loop k) = loop k
+form_seen (borrowed.Loop k) = loop (exactly k)
+form_seen (borrowed.Until k) = loop (at_most k)

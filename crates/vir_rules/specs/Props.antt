@@ -1,7 +1,7 @@
 -- Properties as the rules write and compare them.
 use Rattle.std.specs.Prelude.{ℕ, Bool, ◌&&◌, nat_eq, List, ◌++◌, codes, decimal}
 use Rattle.vir_term.specs.declared.prop.Prop.{Prop}
-use Rattle.vir_term.specs.declared.prop.Prop.TheVariants.{Ne, Ea, El, Defers, Rejects, Elim, Nb, Decr, Dli, Imono, Dimono, Dmono, Mono, Cc, Dcc, Cprog, Ccomp}
+use Rattle.vir_term.specs.declared.prop.Prop.TheVariants.{Ne, Ea, El, Defers, Rejects, Elim, Nb, Decr, Dli, Imono, Dimono, Dmono, Mono, Cc, Dcc, Cprog, Ccomp, Neut}
 
 -- the place of a property in their order, from 1
 abbrev pub rank : Prop → ℕ
@@ -22,6 +22,7 @@ rank Cc = 14
 rank Dcc = 15
 rank Cprog = 16
 rank Ccomp = 17
+rank Neut = 18
 
 -- the number of a property; 0 where it has none
 abbrev pub number_of : Prop → ℕ
@@ -57,3 +58,4 @@ prop_text Cc = codes "cc"
 prop_text Dcc = codes "dcc"
 prop_text Cprog = codes "cprog"
 prop_text Ccomp = codes "ccomp"
+prop_text Neut = codes "neut"

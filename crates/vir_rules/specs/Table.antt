@@ -5,8 +5,8 @@ use Rattle.std.specs.Prelude.{ℕ, List, [], ◌∷◌, codes}
 use Rattle.vir_term.specs.declared.prop.Prop.TheVariants as prop
 use Rattle.vir_rules.specs.declared.row.Wanted.{Wanted}
 use Rattle.vir_rules.specs.declared.row.Wanted.TheVariants.{Is, DefersK as defers_k, RejectsK as rejects_k}
-use Rattle.vir_rules.specs.declared.row.Family.TheVariants.{ElectingNobody, ElectingAll, ElectingSome, KeepingSome, Dropping, Unscored, Leading, Eliminating, Winning, Progressing, Deferring}
-use Rattle.vir_rules.specs.declared.row.Shape.TheVariants.{Any as any, ModuleOf as module_of, PassK as pass_k, DropK as drop_k, Rev as rev, Seq as seq, Par as par, Loop as loop, LoopK as loop_k, LoopOne as loop_1}
+use Rattle.vir_rules.specs.declared.row.Family.TheVariants.{ElectingNobody, ElectingAll, ElectingSome, KeepingSome, Dropping, Unscored, Leading, Eliminating, Winning, Progressing, Deferring, Unordered}
+use Rattle.vir_rules.specs.declared.row.Shape.TheVariants.{Any as any, ModuleOf as module_of, PassK as pass_k, DropK as drop_k, Rev as rev, Seq as seq, Par as par, Loop as loop, LoopK as loop_k, LoopOne as loop_1, Until as until, UntilK as until_k, UntilOne as until_1}
 use Rattle.vir_rules.specs.declared.row.Pairing.TheVariants.{PassDrop as pass_and_drop, DropPass as drop_and_pass, SeqLeft as seq_left, SeqRight as seq_right, RevLeft as rev_left, RevRight as rev_right}
 use Rattle.vir_rules.specs.declared.row.Conclusion.{Conclusion}
 use Rattle.vir_rules.specs.declared.row.Conclusion.TheVariants.{Has, Apart}
@@ -66,6 +66,9 @@ cprog = Is prop.Cprog
 
 abbrev ccomp : Wanted
 ccomp = Is prop.Ccomp
+
+abbrev neut : Wanted
+neut = Is prop.Neut
 
 abbrev defers_1 : Wanted
 defers_1 = Is (prop.Defers 1)
@@ -164,4 +167,17 @@ table =
     rule (codes "disj-seq-right") (Apart seq_right) (Disj t m ∷ []) ∷
     rule (codes "disj-rev-left") (Apart rev_left) (Disj m t ∷ []) ∷
     rule (codes "disj-rev-right") (Apart rev_right) (Disj t m ∷ []) ∷
+    rule (codes "neut-leaf") (Has neut (module_of Unordered)) [] ∷
+    rule (codes "neut-rev") (Has neut rev) (Of neut m ∷ []) ∷
+    rule (codes "neut-seq") (Has neut seq) (Of neut m ∷ Of neut n ∷ []) ∷
+    rule (codes "neut-par") (Has neut par) (Of neut m ∷ Of neut n ∷ []) ∷
+    rule (codes "neut-loop") (Has neut loop) (Of neut m ∷ []) ∷
+    rule (codes "neut-until") (Has neut until) (Of neut m ∷ []) ∷
+    rule (codes "ne-until") (Has ne until) (Of ne m ∷ []) ∷
+    rule (codes "defers-until-elim") (Has defers_k until_k) (Of elim_1 m ∷ Of ne m ∷ []) ∷
+    rule (codes "defers-until-one") (Has defers_1 until_1) (Of ne m ∷ Of nb m ∷ Of decr m ∷ []) ∷
+    rule (codes "nb-until") (Has nb until) (Of nb m ∷ []) ∷
+    rule (codes "dli-until") (Has dli until) (Of dli m ∷ []) ∷
+    rule (codes "dcc-until") (Has dcc until_1) (Of cprog m ∷ []) ∷
+    rule (codes "ccomp-until") (Has ccomp until) (Of ccomp m ∷ []) ∷
     []

@@ -31,6 +31,7 @@ impl Family {
                     if score != Score::Plurality
             ),
             Family::Deferring => matches!(kind, LeafKind::Defer),
+            Family::Unordered => !matches!(kind, LeafKind::PassFirst | LeafKind::DropFirst),
         }
     }
 }

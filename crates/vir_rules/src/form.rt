@@ -18,6 +18,8 @@ pub enum Form<'a> {
     Par,
     /// A loop that ends at so many alternatives.
     Loop(u32),
+    /// A loop that ends at so many alternatives or fewer.
+    Until(u32),
 }
 
 impl<'a> Form<'a> {
@@ -31,6 +33,7 @@ impl<'a> Form<'a> {
             Term::Seq(_, _) => Form::Seq,
             Term::Par(_, _) => Form::Par,
             Term::Loop { k, .. } => Form::Loop(*k),
+            Term::Until { k, .. } => Form::Until(*k),
         }
     }
 
@@ -49,6 +52,9 @@ impl<'a> Form<'a> {
             (Shape::Loop, Form::Loop(_)) => true,
             (Shape::LoopK, Form::Loop(j)) => j == k,
             (Shape::LoopOne, Form::Loop(j)) => j == 1,
+            (Shape::Until, Form::Until(_)) => true,
+            (Shape::UntilK, Form::Until(j)) => j == k,
+            (Shape::UntilOne, Form::Until(j)) => j == 1,
             _ => false,
         }
     }

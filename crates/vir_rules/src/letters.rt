@@ -28,7 +28,7 @@ fn letters_of<'a>(term: &'a Term, k: u32) -> Letters<'a>
         Term::Leaf(_) => (term, term),
         Term::Rev(part) => (part, part),
         Term::Seq(first, second) | Term::Par(first, second) => (first, second),
-        Term::Loop { body, .. } => (body, body),
+        Term::Loop { body, .. } | Term::Until { body, .. } => (body, body),
     };
     Letters { k, m, n, t: term }
 }

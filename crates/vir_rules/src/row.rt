@@ -39,6 +39,8 @@ pub enum Family {
     Progressing,
     /// `defer`: it leaves all undecided.
     Deferring,
+    /// `elect`, `defer`, `plurality` and the four eliminators: they have no order of their own.
+    Unordered,
 }
 
 /// The outermost form of a term that a row is about.
@@ -64,6 +66,12 @@ pub enum Shape {
     LoopK,
     /// A loop of the number 1.
     LoopOne,
+    /// An until of any number.
+    Until,
+    /// An until of the number k.
+    UntilK,
+    /// An until of the number 1.
+    UntilOne,
 }
 
 /// Two terms that a row calls disjoint. The one that is composed has the first part m; the other is t.

@@ -26,7 +26,7 @@ impl Model for RuleId {
 
 impl RuleId {
     /// How many rules the table has.
-    pub const COUNT: usize = 82;
+    pub const COUNT: usize = 95;
 
     /// The rule's number: its place in the table, the first one at 1.
     pub fn number(self) -> usize

@@ -51,6 +51,8 @@ const CPROG: Wanted = Is(Prop::Cprog);
 
 const CCOMP: Wanted = Is(Prop::Ccomp);
 
+const NEUT: Wanted = Is(Prop::Neut);
+
 static ROWS: [Row; RuleId::COUNT] = [
     Row("ne-leaf", Has(NE, ModuleOf(ElectingNobody)), &[]),
     Row("ne-rev", Has(NE, Rev), &[]),
@@ -202,6 +204,27 @@ static ROWS: [Row; RuleId::COUNT] = [
     Row("disj-seq-right", Apart(SeqRight), &[Disj(T, M)]),
     Row("disj-rev-left", Apart(RevLeft), &[Disj(M, T)]),
     Row("disj-rev-right", Apart(RevRight), &[Disj(T, M)]),
+    Row("neut-leaf", Has(NEUT, ModuleOf(Unordered)), &[]),
+    Row("neut-rev", Has(NEUT, Rev), &[Of(NEUT, M)]),
+    Row("neut-seq", Has(NEUT, Seq), &[Of(NEUT, M), Of(NEUT, N)]),
+    Row("neut-par", Has(NEUT, Par), &[Of(NEUT, M), Of(NEUT, N)]),
+    Row("neut-loop", Has(NEUT, Loop), &[Of(NEUT, M)]),
+    Row("neut-until", Has(NEUT, Until), &[Of(NEUT, M)]),
+    Row("ne-until", Has(NE, Until), &[Of(NE, M)]),
+    Row(
+        "defers-until-elim",
+        Has(DefersK, UntilK),
+        &[Of(ELIM_1, M), Of(NE, M)],
+    ),
+    Row(
+        "defers-until-one",
+        Has(DEFERS_1, UntilOne),
+        &[Of(NE, M), Of(NB, M), Of(DECR, M)],
+    ),
+    Row("nb-until", Has(NB, Until), &[Of(NB, M)]),
+    Row("dli-until", Has(DLI, Until), &[Of(DLI, M)]),
+    Row("dcc-until", Has(DCC, UntilOne), &[Of(CPROG, M)]),
+    Row("ccomp-until", Has(CCOMP, Until), &[Of(CCOMP, M)]),
 ];
 
 // The rows, in their order: the rules of the table.

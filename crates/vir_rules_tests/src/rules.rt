@@ -12,6 +12,8 @@ const NAMES: &[(&str, usize)] = &[
     ("ne-leaf", 1),
     ("elim-par-left", 22),
     ("disj-rev-right", 82),
+    ("neut-leaf", 83),
+    ("ccomp-until", 95),
     ("ne-", 0),
 ];
 

@@ -6,7 +6,8 @@ use Rattle.vir_altset.specs.SetLaws.{contains-difference, contains-retain, conta
 use Rattle.vir_altset.specs.declared.split.Split.{Split}
 use Rattle.vir_altset.proofs.SplitLaws.{deferred_part}
 use Rattle.vir_profile.specs.declared.ballot.Entry.{Entry}
-use Rattle.vir_profile.specs.Profiles.{IsProfileOn, restrict}
+use Rattle.vir_profile.specs.Profiles.{restrict}
+use Rattle.vir_mean.specs.Elections.{IsElection}
 use Rattle.vir_mean.specs.FixedOrders.{is_among_first}
 use Rattle.vir_mean.specs.Modules.{Meaning, first_passed, first_dropped}
 use Rattle.vir_mean.specs.Compositions.{joined, rev_of, seq_of}
@@ -22,7 +23,7 @@ swapped m n disjoint a b member = elim (disjoint a b member) [ inl free ↦ inr 
 -- ---- free alternatives
 module _ (m : Meaning) (splits : Splits m) (a : Set) (b : ℕ) (free : IsFree m a b) where
   -- they aren't deferred
-  pub not_deferred : (p : List Entry) → IsProfileOn a p → set.contains (m a p).deferred b ≡ false
+  pub not_deferred : (p : List Entry) → IsElection a p → set.contains (m a p).deferred b ≡ false
   not_deferred p on = let gone = free.rejected p on in let parts = (splits a p).parts b in grind arith
 
   -- what is free for the first part is free for a sequence
@@ -42,7 +43,7 @@ module _ (m : Meaning) (splits : Splits m) (a : Set) (b : ℕ) (free : IsFree m 
   }
 
 -- of two disjoint meanings each rejects what the other defers
-pub deferred_by_one : (m n : Meaning) → Splits m → AreDisjoint m n → (a : Set) (p : List Entry) → IsProfileOn a p → IsPart (m a p).deferred (n a p).rejected
+pub deferred_by_one : (m n : Meaning) → Splits m → AreDisjoint m n → (a : Set) (p : List Entry) → IsElection a p → IsPart (m a p).deferred (n a p).rejected
 deferred_by_one m n splits disjoint a p on x member = elim (disjoint a x (deferred_part a (m a p) (splits a p) x member)) [
   | inl free ↦ absurd (let out = not_deferred m splits a x free p on in cc (member, out))
   | inr free ↦ free.rejected p on

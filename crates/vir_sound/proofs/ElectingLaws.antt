@@ -1,5 +1,5 @@
 -- Laws of electing: nobody, everybody, somebody.
-use Rattle.std.proofs.Common.{◌≡◌, ℕ, ◌≤◌, true, true≢false, not, ◌&&◌, refl, sym, ap₂, ◌∙◌, arith}
+use Rattle.std.proofs.Common.{◌≡◌, ◌≤◌, true, true≢false, not, ◌&&◌, refl, sym, ap₂, ◌∙◌, arith}
 use Rattle.std.proofs.lemmas.Bool.Decides.{nat_tests}
 use Rattle.std.specs.FinSet as set
 use Rattle.vir_altset.specs.Sets.{Set, IsPart}
@@ -12,6 +12,7 @@ use Rattle.vir_term.specs.declared.prop.Prop.TheVariants.{Ne, Ea, El, Nb}
 use Rattle.vir_term.specs.Kinds.{kind_of}
 use Rattle.vir_mean.specs.Scores.{plurality_score}
 use Rattle.vir_mean.specs.Modules.{Meaning, leaf_mean}
+use Rattle.vir_term.specs.Tree.{End, number_of}
 use Rattle.vir_mean.specs.Compositions.{rev_of, seq_of, par_of, loop_of}
 use Rattle.vir_mean.specs.Properties.{Holds}
 use Rattle.vir_mean.proofs.MeaningLaws.{Splits}
@@ -42,7 +43,7 @@ ne_seq m n splits also first second a p on = union_none _ _ (first a p on) (seco
 pub ne_par : (m n : Meaning) → Splits m → Splits n → Holds Ne m → Holds Ne n → Holds Ne (par_of m n)
 ne_par m n splits also first second a p on = union_none _ _ (first a p on) (second a p on)
 
-pub ne_loop : (k : ℕ) (m : Meaning) → 1 ≤ k → Splits m → Holds Ne m → Holds Ne (loop_of k m)
+pub ne_loop : (k : End) (m : Meaning) → 1 ≤ number_of k → Splits m → Holds Ne m → Holds Ne (loop_of k m)
 ne_loop k m some splits body = by_turns k m splits (λ a p s. s.elected ≡ set.empty)
     (λ a p on few. refl)
     (λ a p on more whole. refl)

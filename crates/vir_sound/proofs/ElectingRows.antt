@@ -1,6 +1,7 @@
 -- The rules on who is elected. Each row is sound.
 use Rattle.std.proofs.Common.{codes, refl}
 use Rattle.vir_term.specs.declared.prop.Prop.TheVariants.{Ne, Ea, El}
+use Rattle.vir_term.specs.Tree.{exactly, at_most}
 use Rattle.vir_mean.specs.Meaning.{mean}
 use Rattle.vir_mean.proofs.MeaningLaws.{mean-split}
 use Rattle.vir_rules.specs.declared.row.Family.TheVariants.{ElectingNobody, ElectingAll, ElectingSome}
@@ -8,7 +9,7 @@ use Rattle.vir_rules.specs.Premises.{row_of}
 use Rattle.vir_rules.specs.Table.{table}
 use Rattle.vir_sound.specs.Truth.{IsSound}
 use Rattle.vir_sound.proofs.ElectingLaws.{ea_leaf, ea_par_left, ea_par_right, ea_seq, el_ea, el_leaf, el_par_left, el_par_right, el_seq_first, el_seq_second, ne_leaf, ne_loop, ne_par, ne_rev, ne_seq}
-use Rattle.vir_sound.proofs.Shapes.{by_any, by_loop, by_module, by_par, by_rev, by_seq}
+use Rattle.vir_sound.proofs.Shapes.{by_any, by_loop, by_until, by_module, by_par, by_rev, by_seq}
 
 pub ne_leaf_sound : IsSound 1 (codes "ne-leaf")
 unfolding row_of table
@@ -28,7 +29,7 @@ ne_par_sound = record { named = refl; sound = by_par Ne (row_of 4) refl (λ m n.
 
 pub ne_loop_sound : IsSound 5 (codes "ne-loop")
 unfolding row_of table
-ne_loop_sound = record { named = refl; sound = by_loop Ne (row_of 5) refl (λ k m some. ne_loop k (mean m) some (mean-split m)) }
+ne_loop_sound = record { named = refl; sound = by_loop Ne (row_of 5) refl (λ k m some. ne_loop (exactly k) (mean m) some (mean-split m)) }
 
 pub ea_leaf_sound : IsSound 6 (codes "ea-leaf")
 unfolding row_of table
@@ -69,3 +70,7 @@ el_par_right_sound = record { named = refl; sound = by_par El (row_of 14) refl (
 pub el_ea_sound : IsSound 15 (codes "el-ea")
 unfolding row_of table
 el_ea_sound = record { named = refl; sound = by_any El (row_of 15) refl (λ m. el_ea (mean m) (mean-split m)) }
+
+pub ne_until_sound : IsSound 89 (codes "ne-until")
+unfolding row_of table
+ne_until_sound = record { named = refl; sound = by_until Ne (row_of 89) refl (λ k m some. ne_loop (at_most k) (mean m) some (mean-split m)) }

@@ -1,5 +1,5 @@
 -- Laws of keeping and of dropping: not all are rejected, somebody is rejected.
-use Rattle.std.proofs.Common.{◌≡◌, ◌≢◌, ℕ, ◌≤◌, true, sym, ap, arith}
+use Rattle.std.proofs.Common.{◌≡◌, ◌≢◌, ◌≤◌, true, sym, ap, arith}
 use Rattle.std.specs.FinSet as set
 use Rattle.vir_altset.specs.Sets.{Set, IsPart}
 use Rattle.vir_altset.specs.SetLaws.{contains-union, contains-intersection, contains-difference, same_members}
@@ -14,6 +14,7 @@ use Rattle.vir_term.specs.declared.prop.Prop.TheVariants.{Ne, El, Defers, Reject
 use Rattle.vir_term.specs.Kinds.{kind_of}
 use Rattle.vir_mean.specs.FixedOrders.{is_among_first}
 use Rattle.vir_mean.specs.Modules.{Meaning, leaf_mean}
+use Rattle.vir_term.specs.Tree.{End, number_of}
 use Rattle.vir_mean.specs.Compositions.{joined, rev_of, seq_of, par_of, loop_of}
 use Rattle.vir_mean.specs.Properties.{Holds}
 use Rattle.vir_mean.proofs.MeaningLaws.{Splits, turns-split}
@@ -74,7 +75,7 @@ nb_par_left m n splits also first a p on some all = first a p on some (whole_lef
 pub nb_par_right : (m n : Meaning) → Splits m → Splits n → Holds Nb n → Holds Nb (par_of m n)
 nb_par_right m n splits also second a p on some all = second a p on some (whole_right a _ _ (rejected_part a (n a p) (also a p)) all)
 
-pub nb_loop : (k : ℕ) (m : Meaning) → 1 ≤ k → Splits m → Holds Nb m → Holds Nb (loop_of k m)
+pub nb_loop : (k : End) (m : Meaning) → 1 ≤ number_of k → Splits m → Holds Nb m → Holds Nb (loop_of k m)
 nb_loop k m positive splits body = by_turns k m splits (λ a p s. a ≢ set.empty → s.rejected ≢ a)
     (λ a p on few some all. some (sym all))
     (λ a p on more whole some all. some (sym all))

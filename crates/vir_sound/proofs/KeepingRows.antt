@@ -1,6 +1,7 @@
 -- The rules on rejecting all, and on rejecting somebody. Each row is sound.
 use Rattle.std.proofs.Common.{codes, refl}
 use Rattle.vir_term.specs.declared.prop.Prop.TheVariants.{Nb, Decr}
+use Rattle.vir_term.specs.Tree.{exactly, at_most}
 use Rattle.vir_mean.specs.Meaning.{mean}
 use Rattle.vir_mean.proofs.MeaningLaws.{mean-split}
 use Rattle.vir_rules.specs.declared.row.Family.TheVariants.{KeepingSome, Dropping}
@@ -8,7 +9,7 @@ use Rattle.vir_rules.specs.Premises.{row_of}
 use Rattle.vir_rules.specs.Table.{table}
 use Rattle.vir_sound.specs.Truth.{IsSound}
 use Rattle.vir_sound.proofs.KeepingLaws.{decr_defers, decr_elim, decr_leaf, decr_rejects, decr_seq, nb_defers, nb_el, nb_leaf, nb_loop, nb_par_left, nb_par_right, nb_rev, nb_seq}
-use Rattle.vir_sound.proofs.Shapes.{by_any, by_loop, by_module, by_par, by_rev, by_seq}
+use Rattle.vir_sound.proofs.Shapes.{by_any, by_loop, by_until, by_module, by_par, by_rev, by_seq}
 
 pub nb_leaf_sound : IsSound 24 (codes "nb-leaf")
 unfolding row_of table
@@ -32,7 +33,7 @@ nb_par_right_sound = record { named = refl; sound = by_par Nb (row_of 28) refl (
 
 pub nb_loop_sound : IsSound 29 (codes "nb-loop")
 unfolding row_of table
-nb_loop_sound = record { named = refl; sound = by_loop Nb (row_of 29) refl (λ k m some. nb_loop k (mean m) some (mean-split m)) }
+nb_loop_sound = record { named = refl; sound = by_loop Nb (row_of 29) refl (λ k m some. nb_loop (exactly k) (mean m) some (mean-split m)) }
 
 pub nb_el_sound : IsSound 30 (codes "nb-el")
 unfolding row_of table
@@ -61,3 +62,7 @@ decr_rejects_sound = record { named = refl; sound = by_any Decr (row_of 35) refl
 pub decr_defers_sound : IsSound 36 (codes "decr-defers")
 unfolding row_of table
 decr_defers_sound = record { named = refl; sound = by_any Decr (row_of 36) refl (λ m. decr_defers (mean m) (mean-split m)) }
+
+pub nb_until_sound : IsSound 92 (codes "nb-until")
+unfolding row_of table
+nb_until_sound = record { named = refl; sound = by_until Nb (row_of 92) refl (λ k m some. nb_loop (at_most k) (mean m) some (mean-split m)) }

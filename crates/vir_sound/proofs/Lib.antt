@@ -27,5 +27,7 @@ pub mod LiftedEliminations
 pub mod Averages
 pub mod SparedMembers
 pub mod WinnerLeaves
+pub mod NeutralLaws
+pub mod NeutralRows
 pub mod AllRows
 pub mod DerivedTruth

@@ -9,7 +9,7 @@ use Rattle.vir_altset.specs.SetLaws.{contains-empty, contains-difference, contai
 use Rattle.vir_altset.specs.Splits.{bit}
 use Rattle.vir_altset.specs.declared.split.Split.{Split}
 use Rattle.vir_profile.specs.declared.ballot.Entry.{Entry}
-use Rattle.vir_profile.specs.Profiles.{IsProfileOn}
+use Rattle.vir_mean.specs.Elections.{IsElection}
 use Rattle.vir_term.specs.declared.score.Score.{Score}
 use Rattle.vir_term.specs.declared.score.Score.TheVariants.{Plurality, Borda, Copeland, Minimax, Condorcet}
 use Rattle.vir_term.specs.declared.leaf.Leaf.{Leaf}
@@ -98,12 +98,12 @@ deferred_still a x t u inside sooner with_all before = eliminated-deferred a u x
         both : (b c : Bool) → b ≡ true → c ≡ true → (b && c) ≡ true
         both b c one other = grind arith
 
-module _ (a : Set) (p q : List Entry) (x : ℕ) (on : IsProfileOn a p) (on_after : IsProfileOn a q) (inside : set.contains a x ≡ true) (lifted : Lifts x p q) where
+module _ (a : Set) (p q : List Entry) (x : ℕ) (on : IsElection a p) (on_after : IsElection a q) (inside : set.contains a x ≡ true) (lifted : Lifts x p q) where
   lift_of : (s : Score) → IsLift a x (score s a p) (score s a q)
   lift_of s = record {
     inside = inside;
-    rises = lifted_score_never_falls a p q x on on_after inside lifted s;
-    falls = no_other_score_rises a p q x on on_after inside lifted s;
+    rises = lifted_score_never_falls a p q x on.lists on_after.lists inside lifted s;
+    falls = no_other_score_rises a p q x on.lists on_after.lists inside lifted s;
   }
 
   -- where x leads, it rises as soon as another's score changes
@@ -123,7 +123,7 @@ module _ (a : Set) (p q : List Entry) (x : ℕ) (on : IsProfileOn a p) (on_after
       was false false falls moved = absurd (moved refl)
 
       winner : beats_all y a p ≡ true
-      winner = was _ _ (no_other_score_rises a p q x on on_after inside lifted Condorcet y member apart) moved
+      winner = was _ _ (no_other_score_rises a p q x on.lists on_after.lists inside lifted Condorcet y member apart) moved
 
       level : (b c : Bool) → b ≡ true → pos (bit b) ≤ℤ pos (bit c) → c ≡ true
       level true true e most = refl
@@ -143,9 +143,9 @@ module _ (a : Set) (p q : List Entry) (x : ℕ) (on : IsProfileOn a p) (on_after
           step m n less more = grind (arith, nat_tests)
 
   moves : (s : Score) → is_leading s ≡ true → Moves s
-  moves Plurality leading leads = moved_plurality a p q x on on_after inside lifted
-  moves Borda leading leads = moved_borda a p q x on on_after inside lifted
-  moves Copeland leading leads = moved_copeland a p q x on on_after inside lifted
+  moves Plurality leading leads = moved_plurality a p q x on.lists on_after.lists inside lifted
+  moves Borda leading leads = moved_borda a p q x on.lists on_after.lists inside lifted
+  moves Copeland leading leads = moved_copeland a p q x on.lists on_after.lists inside lifted
   moves Minimax leading leads = absurd (true≢false (sym leading))
   moves Condorcet leading leads = moved_condorcet leads
 

@@ -1,6 +1,7 @@
 -- The rules on lifts. Each row is sound.
 use Rattle.std.proofs.Common.{codes, refl}
 use Rattle.vir_term.specs.declared.prop.Prop.TheVariants.{Dli, Imono, Dimono, Dmono, Mono}
+use Rattle.vir_term.specs.Tree.{exactly, at_most}
 use Rattle.vir_mean.specs.Meaning.{mean}
 use Rattle.vir_mean.proofs.MeaningLaws.{mean-split}
 use Rattle.vir_rules.specs.declared.row.Family.TheVariants.{ElectingSome, Unscored, Leading, Eliminating}
@@ -12,7 +13,7 @@ use Rattle.vir_sound.proofs.LiftLoops.{dli_loop}
 use Rattle.vir_sound.proofs.LiftParallels.{dli_par, dmono_par, mono_par}
 use Rattle.vir_sound.proofs.LiftRevisions.{dimono_dli, dimono_rev, dmono_dimono, dmono_dli, dmono_rev, mono_ea, mono_imono, mono_ne}
 use Rattle.vir_sound.proofs.LiftSequences.{dli_seq_both, dli_seq_one, mono_seq_defers, mono_seq_ea}
-use Rattle.vir_sound.proofs.Shapes.{by_any, by_loop, by_module, by_par, by_rev, by_seq}
+use Rattle.vir_sound.proofs.Shapes.{by_any, by_loop, by_until, by_module, by_par, by_rev, by_seq}
 
 pub dli_leaf_sound : IsSound 37 (codes "dli-leaf")
 unfolding row_of table
@@ -32,7 +33,7 @@ dli_par_sound = record { named = refl; sound = by_par Dli (row_of 40) refl (λ m
 
 pub dli_loop_sound : IsSound 41 (codes "dli-loop")
 unfolding row_of table
-dli_loop_sound = record { named = refl; sound = by_loop Dli (row_of 41) refl (λ k m some. dli_loop k (mean m) some (mean-split m)) }
+dli_loop_sound = record { named = refl; sound = by_loop Dli (row_of 41) refl (λ k m some. dli_loop (exactly k) (mean m) some (mean-split m)) }
 
 pub imono_leaf_sound : IsSound 42 (codes "imono-leaf")
 unfolding row_of table
@@ -93,3 +94,7 @@ mono_ea_sound = record { named = refl; sound = by_any Mono (row_of 55) refl (λ 
 pub mono_imono_sound : IsSound 56 (codes "mono-imono")
 unfolding row_of table
 mono_imono_sound = record { named = refl; sound = by_any Mono (row_of 56) refl (λ m. mono_imono (mean m) (mean-split m)) }
+
+pub dli_until_sound : IsSound 93 (codes "dli-until")
+unfolding row_of table
+dli_until_sound = record { named = refl; sound = by_until Dli (row_of 93) refl (λ k m some. dli_loop (at_most k) (mean m) some (mean-split m)) }

@@ -7,8 +7,8 @@ use Rattle.vir_altset.specs.declared.split.Split.{Split}
 use Rattle.vir_altset.proofs.SizeLaws.{len_of_member}
 use Rattle.vir_altset.proofs.SplitLaws.{elected_part, deferred_part, join_split}
 use Rattle.vir_profile.specs.declared.ballot.Entry.{Entry}
-use Rattle.vir_profile.specs.Profiles.{IsProfileOn, restrict}
-use Rattle.vir_profile.proofs.RestrictionLaws.{restricted_orders}
+use Rattle.vir_profile.specs.Profiles.{restrict}
+use Rattle.vir_mean.specs.Elections.{IsElection}
 use Rattle.vir_term.specs.declared.prop.Prop.TheVariants.{Ne, Ea, El, Defers, Dli, Dimono, Dmono, Mono}
 use Rattle.vir_mean.specs.Modules.{Meaning}
 use Rattle.vir_mean.specs.Compositions.{joined, seq_of}
@@ -16,7 +16,7 @@ use Rattle.vir_mean.specs.Properties.{Holds, just}
 use Rattle.vir_mean.specs.Lifts.{Lifts}
 use Rattle.vir_mean.proofs.MeaningLaws.{Splits}
 use Rattle.vir_mean.proofs.RestrictedLifts.{restricted_lift}
-use Rattle.vir_sound.proofs.MeaningLemmas.{same_at, none_at, not_empty, deferred_profile, union_none}
+use Rattle.vir_sound.proofs.MeaningLemmas.{restricted_orders, same_at, none_at, not_empty, deferred_profile, union_none}
 use Rattle.vir_sound.proofs.WinnerLemmas.{defers, contains-just-same, just_of_len, part_of_just, defers_alone}
 
 -- a part of the set of x alone is that set, unless it is empty
@@ -43,35 +43,35 @@ dli_seq_both m n first second one other a p q x at_p at_q inside lift deferred =
 -- ---- where the second part defers one alone
 module _ (m n : Meaning) (first : Splits m) (second : Splits n) (dimono : Holds Dimono m) (none : Holds Ne n) (one : Holds (Defers 1) n) (dmono : Holds Dmono n) where
   -- where such a sequence defers x alone
-  defers_just : (a : Set) (p : List Entry) (x : ℕ) → IsProfileOn a p → (n (m a p).deferred (restrict (m a p).deferred p)).deferred ≡ just x
+  defers_just : (a : Set) (p : List Entry) (x : ℕ) → IsElection a p → (n (m a p).deferred (restrict (m a p).deferred p)).deferred ≡ just x
       → seq_of m n a p ≡ defers x a
   defers_just a p x at_p alone =
       let at_d = deferred_profile m first a p at_p in
       defers_alone x a (seq_of m n a p) (seq_split m n first second a p) (union_none _ _ (dimono.0 a p at_p) (none _ _ at_d)) alone
 
   -- what the second part defers of a set with x, where it defers x
-  just_deferred : (d : Set) (p : List Entry) (x : ℕ) → IsProfileOn d p → set.contains d x ≡ true → set.contains (n d p).deferred x ≡ true → (n d p).deferred ≡ just x
+  just_deferred : (d : Set) (p : List Entry) (x : ℕ) → IsElection d p → set.contains d x ≡ true → set.contains (n d p).deferred x ≡ true → (n d p).deferred ≡ just x
   just_deferred d p x at_p inside deferred = just_of_len x (n d p).deferred deferred (one d p at_p (len_of_member d x inside))
 
   -- the second part defers x where the first's deferred set stays, and where it becomes that of x
-  still_just : (a : Set) (p q : List Entry) (x : ℕ) → IsProfileOn a p → IsProfileOn a q → set.contains a x ≡ true → Lifts x p q → set.contains (seq_of m n a p).deferred x ≡ true
+  still_just : (a : Set) (p q : List Entry) (x : ℕ) → IsElection a p → IsElection a q → set.contains a x ≡ true → Lifts x p q → set.contains (seq_of m n a p).deferred x ≡ true
       → (n (m a q).deferred (restrict (m a q).deferred q)).deferred ≡ just x
   still_just a p q x at_p at_q inside lift deferred =
       let d = (m a p).deferred in
       let part : IsPart d a = deferred_part a (m a p) (first a p) in
       let in_d : set.contains d x ≡ true = deferred_by_first m n second a p x deferred in
-      let before : IsProfileOn d (restrict d p) = restricted_orders a d p part at_p in
-      let after : IsProfileOn d (restrict d q) = restricted_orders a d q part at_q in
+      let before : IsElection d (restrict d p) = restricted_orders a d p part at_p in
+      let after : IsElection d (restrict d q) = restricted_orders a d q part at_q in
       let still = dmono d (restrict d p) (restrict d q) x before after in_d (restricted_lift d p q x in_d lift) deferred in
       ⊎_elim
       (λ (stays : (m a q).deferred ≡ d). ap (λ s. (n s (restrict s q)).deferred) stays ∙ just_deferred d (restrict d q) x after in_d still)
       (λ (becomes : (m a q).deferred ≡ just x). on_alone a q x at_q becomes)
       (dimono.1 a p q x at_p at_q inside lift in_d)
     where
-      on_alone : (a : Set) (q : List Entry) (x : ℕ) → IsProfileOn a q → (m a q).deferred ≡ just x → (n (m a q).deferred (restrict (m a q).deferred q)).deferred ≡ just x
+      on_alone : (a : Set) (q : List Entry) (x : ℕ) → IsElection a q → (m a q).deferred ≡ just x → (n (m a q).deferred (restrict (m a q).deferred q)).deferred ≡ just x
       on_alone a q x at_q becomes =
           let d = (m a q).deferred in
-          let at_d : IsProfileOn d (restrict d q) = deferred_profile m first a q at_q in
+          let at_d : IsElection d (restrict d q) = deferred_profile m first a q at_q in
           let in_d : set.contains d x ≡ true = same_at x becomes ∙ contains-just-same x in
           let size : set.len (n d (restrict d q)).deferred ≡ 1 = one d (restrict d q) at_d (len_of_member d x in_d) in
           still_alone x d (n d (restrict d q)).deferred (deferred_part d (n d (restrict d q)) (second d (restrict d q))) becomes (not_empty (n d (restrict d q)).deferred (omega arith))
@@ -85,7 +85,7 @@ dli_seq_one m n first second dimono none one dmono a p q x at_p at_q inside lift
     defers_just m n first second dimono none one dmono a q x at_q after ∙ sym (defers_just m n first second dimono none one dmono a p x at_p before)
 
 -- ---- where the first part elects nobody, the second elects all that the sequence does
-elected_by_second : (m n : Meaning) → Holds Ne m → (a : Set) (p : List Entry) (x : ℕ) → IsProfileOn a p → set.contains (seq_of m n a p).elected x ≡ set.contains (n (m a p).deferred (restrict (m a p).deferred p)).elected x
+elected_by_second : (m n : Meaning) → Holds Ne m → (a : Set) (p : List Entry) (x : ℕ) → IsElection a p → set.contains (seq_of m n a p).elected x ≡ set.contains (n (m a p).deferred (restrict (m a p).deferred p)).elected x
 elected_by_second m n none a p x at_p =
     contains-union (m a p).elected (n (m a p).deferred (restrict (m a p).deferred p)).elected x
     ∙ ap (λ b. b || set.contains (n (m a p).deferred (restrict (m a p).deferred p)).elected x) (none_at x (none a p at_p))
@@ -97,7 +97,7 @@ mono_seq_defers m n first second dli none one some a p q x at_p at_q inside lift
     let part : IsPart d a = deferred_part a (m a p) (first a p) in
     let in_d : set.contains d x ≡ true = elected_part d (n d (restrict d p)) (second d (restrict d p)) x (sym (elected_by_second m n none a p x at_p) ∙ elected) in
     let alone : d ≡ just x = just_of_len x d in_d (one a p at_p (len_of_member a x inside)) in
-    let after : IsProfileOn d (restrict d q) = restricted_orders a d q part at_q in
+    let after : IsElection d (restrict d q) = restricted_orders a d q part at_q in
     let somebody = some d (restrict d q) after (not_empty d (len_of_member d x in_d)) in
     let winner = still_alone x d (n d (restrict d q)).elected (elected_part d (n d (restrict d q)) (second d (restrict d q))) alone somebody in
     elected_by_second m n none a q x at_q

@@ -1,5 +1,5 @@
 -- What many laws of meanings rest on: sets without members, profiles on what is deferred, and loops by their turns.
-use Rattle.std.proofs.Common.{◌≡◌, ◌≢◌, ℕ, zero, suc, ◌+◌, ◌<◌, ◌≤◌, Bool, true, false, cond, ◌||◌, nat_eq, List, refl, sym, ap, ◌∙◌, subst, arith}
+use Rattle.std.proofs.Common.{◌≡◌, ◌≢◌, ℕ, zero, suc, ◌+◌, ◌<◌, ◌≤◌, Bool, true, false, cond, ◌||◌, List, refl, sym, ap, ◌∙◌, subst, arith}
 use Rattle.std.proofs.lemmas.Bool.Decides.{nat_tests}
 use Rattle.std.specs.Cmp.{nat_cmp_total}
 use Rattle.std.specs.FinSet as set
@@ -10,11 +10,13 @@ use Rattle.vir_altset.specs.declared.split.Split.{Split}
 use Rattle.vir_altset.proofs.SizeLaws.{len_of_empty, empty_of_len, HasMember, member_of_len}
 use Rattle.vir_altset.proofs.SplitLaws.{len-split, deferred_part}
 use Rattle.vir_profile.specs.declared.ballot.Entry.{Entry}
-use Rattle.vir_profile.specs.Profiles.{IsProfileOn, restrict}
-use Rattle.vir_profile.proofs.RestrictionLaws.{restricted_orders}
+use Rattle.vir_profile.specs.Profiles.{restrict}
+use Rattle.vir_mean.specs.Elections.{IsElection}
+use Rattle.vir_profile.proofs.RestrictionLaws.{restricted_orders as restricted_lists}
 use Rattle.vir_mean.specs.Eliminators.{eliminated}
 use Rattle.vir_mean.specs.Modules.{Meaning, all_deferred}
-use Rattle.vir_mean.specs.Compositions.{joined, turn, loop_of}
+use Rattle.vir_term.specs.Tree.{End, exactly, at_most}
+use Rattle.vir_mean.specs.Compositions.{is_end, IsEnd, joined, turn, loop_of}
 use Rattle.vir_mean.proofs.MeaningLaws.{Splits}
 use Rattle.vir_mean.proofs.LoopLaws.{len-part_of_other, loop_of-turn, same_of_subset}
 
@@ -94,8 +96,18 @@ rejected-eliminated a gone some = elim (set.is_subset a gone) as (λ b. set.is_s
   | false ↦ λ proper same. absurd (cc (proper, set.contains-is_subset nat_cmp_total a gone (λ x member. same_at x same ∙ member)))
 ] refl
 
+-- of a part of the set
+only_alternatives : (a d : Set) → IsPart d a → set.contains a 0 ≡ false → set.contains d 0 ≡ false
+only_alternatives a d part none = neither (set.contains d 0) (set.contains a 0) (part 0) none
+  where
+    neither : (in_d in_a : Bool) → (in_d ≡ true → in_a ≡ true) → in_a ≡ false → in_d ≡ false
+    neither in_d in_a there none = grind arith
+
+pub restricted_orders : (a d : Set) (p : List Entry) → IsPart d a → IsElection a p → IsElection d (restrict d p)
+restricted_orders a d p part on = record { positive = only_alternatives a d part on.positive; lists = restricted_lists a d p part on.lists }
+
 -- the profile restricted to what a meaning defers is one on that
-pub deferred_profile : (m : Meaning) → Splits m → (a : Set) (p : List Entry) → IsProfileOn a p → IsProfileOn (m a p).deferred (restrict (m a p).deferred p)
+pub deferred_profile : (m : Meaning) → Splits m → (a : Set) (p : List Entry) → IsElection a p → IsElection (m a p).deferred (restrict (m a p).deferred p)
 deferred_profile m splits a p on = restricted_orders a (m a p).deferred p (deferred_part a (m a p) (splits a p)) on
 
 -- ---- loops
@@ -104,37 +116,39 @@ choice P true whole x y one two three = one refl
 choice P false true x y one two three = two refl refl
 choice P false false x y one two three = three refl refl
 
-equal : (m n : ℕ) → nat_eq m n ≡ true → m ≡ n
-equal m n test = grind (arith, nat_tests)
+ended : (k : End) (n : ℕ) → is_end k n ≡ true → IsEnd k n
+ended (exactly k) n test = grind (arith, nat_tests)
+ended (at_most k) n test = grind (arith, nat_tests)
 
-differ : (m n : ℕ) → nat_eq m n ≡ false → m ≢ n
-differ m n test = grind (arith, nat_tests)
+goes_on : (k : End) (n : ℕ) → is_end k n ≡ false → IsEnd k n → ⊥
+goes_on (exactly k) n test end = grind (arith, nat_tests)
+goes_on (at_most k) n test end = grind (arith, nat_tests)
 
--- A turn has three cases: the set has k members, the body defers all of it, or the loop goes on with fewer.
-pub turn_cases : (P : Split → Type 0) (k : ℕ) (body next : Meaning) → Splits body → (a : Set) (p : List Entry)
-    → (set.len a ≡ k → P (all_deferred a p))
-    → (set.len a ≢ k → (body a p).deferred ≡ a → P (all_deferred a p))
-    → (set.len a ≢ k → IsPart (body a p).deferred a → set.len (body a p).deferred < set.len a → P (joined (body a p) (next (body a p).deferred (restrict (body a p).deferred p))))
+-- A turn has three cases: the set is small enough, the body defers all of it, or the loop goes on with fewer.
+pub turn_cases : (P : Split → Type 0) (k : End) (body next : Meaning) → Splits body → (a : Set) (p : List Entry)
+    → (IsEnd k (set.len a) → P (all_deferred a p))
+    → ((IsEnd k (set.len a) → ⊥) → (body a p).deferred ≡ a → P (all_deferred a p))
+    → ((IsEnd k (set.len a) → ⊥) → IsPart (body a p).deferred a → set.len (body a p).deferred < set.len a → P (joined (body a p) (next (body a p).deferred (restrict (body a p).deferred p))))
     → P (turn k body next a p)
 turn_cases P k body next splits a p few whole more =
     let part = deferred_part a (body a p) (splits a p) in
-    choice P (nat_eq (set.len a) k) (set.is_subset a (body a p).deferred) (all_deferred a p) _
-    (λ e. few (equal _ _ e))
-    (λ e all. whole (differ _ _ e) (same_of_subset a (body a p).deferred part all))
-    (λ e proper. more (differ _ _ e) part (len-part_of_other a (body a p).deferred part proper))
+    choice P (is_end k (set.len a)) (set.is_subset a (body a p).deferred) (all_deferred a p) _
+    (λ e. few (ended k _ e))
+    (λ e all. whole (goes_on k _ e) (same_of_subset a (body a p).deferred part all))
+    (λ e proper. more (goes_on k _ e) part (len-part_of_other a (body a p).deferred part proper))
 
 -- What holds where a loop ends, and goes over from what its body defers to the whole, holds of the loop.
-module _ (k : ℕ) (body : Meaning) (splits : Splits body) (P : Set → List Entry → Split → Type 0)
-    (few : (a : Set) (p : List Entry) → IsProfileOn a p → set.len a ≡ k → P a p (all_deferred a p))
-    (whole : (a : Set) (p : List Entry) → IsProfileOn a p → set.len a ≢ k → (body a p).deferred ≡ a → P a p (all_deferred a p))
-    (more : (a : Set) (p : List Entry) → IsProfileOn a p → set.len a ≢ k → set.len (body a p).deferred < set.len a
+module _ (k : End) (body : Meaning) (splits : Splits body) (P : Set → List Entry → Split → Type 0)
+    (few : (a : Set) (p : List Entry) → IsElection a p → IsEnd k (set.len a) → P a p (all_deferred a p))
+    (whole : (a : Set) (p : List Entry) → IsElection a p → (IsEnd k (set.len a) → ⊥) → (body a p).deferred ≡ a → P a p (all_deferred a p))
+    (more : (a : Set) (p : List Entry) → IsElection a p → (IsEnd k (set.len a) → ⊥) → set.len (body a p).deferred < set.len a
     → P (body a p).deferred (restrict (body a p).deferred p) (loop_of k body (body a p).deferred (restrict (body a p).deferred p))
     → P a p (joined (body a p) (loop_of k body (body a p).deferred (restrict (body a p).deferred p)))) where
-  up_to : (most : ℕ) (a : Set) (p : List Entry) → set.len a < most → IsProfileOn a p → P a p (loop_of k body a p)
+  up_to : (most : ℕ) (a : Set) (p : List Entry) → set.len a < most → IsElection a p → P a p (loop_of k body a p)
   up_to zero a p size on = absurd (omega arith)
   up_to (suc most) a p size on = subst (P a p) (sym (loop_of-turn k body splits a p))
       (turn_cases (P a p) k body (loop_of k body) splits a p (few a p on) (whole a p on)
       (λ differ part smaller. more a p on differ smaller (up_to most (body a p).deferred (restrict (body a p).deferred p) (omega arith) (deferred_profile body splits a p on))))
 
-  pub by_turns : (a : Set) (p : List Entry) → IsProfileOn a p → P a p (loop_of k body a p)
+  pub by_turns : (a : Set) (p : List Entry) → IsElection a p → P a p (loop_of k body a p)
   by_turns a p on = up_to (suc (set.len a)) a p (omega arith) on

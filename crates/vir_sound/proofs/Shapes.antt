@@ -3,16 +3,16 @@ use Rattle.std.proofs.Common.{◌≡◌, ℕ, ◌≤◌, Bool, true, false, if�
 use Rattle.std.specs.Option.{option_and_then}
 use Rattle.vir_term.specs.declared.leaf.Leaf.{Leaf}
 use Rattle.vir_term.specs.declared.prop.Prop.{Prop}
-use Rattle.vir_term.specs.declared.prop.Prop.TheVariants.{Ne, Ea, El, Defers, Rejects, Elim, Nb, Decr, Dli, Imono, Dimono, Dmono, Mono, Cc, Dcc, Cprog, Ccomp}
+use Rattle.vir_term.specs.declared.prop.Prop.TheVariants.{Ne, Ea, El, Defers, Rejects, Elim, Nb, Decr, Dli, Imono, Dimono, Dmono, Mono, Cc, Dcc, Cprog, Ccomp, Neut}
 use Rattle.vir_term.specs.Kinds.{kind_of}
-use Rattle.vir_term.specs.Tree.{Tree, leaf, rev, seq, par, loop}
+use Rattle.vir_term.specs.Tree.{Tree, leaf, rev, seq, par, loop, exactly, at_most}
 use Rattle.vir_mean.specs.Disjointness.{AreDisjoint}
 use Rattle.vir_mean.specs.Meaning.{mean}
 use Rattle.vir_mean.specs.Properties.{Holds}
 use Rattle.vir_rules.specs.declared.row.Wanted.TheVariants.{Is, DefersK, RejectsK}
 use Rattle.vir_rules.specs.declared.row.Family.{Family}
 use Rattle.vir_rules.specs.declared.row.Shape.{Shape}
-use Rattle.vir_rules.specs.declared.row.Shape.TheVariants.{Any, ModuleOf, Rev, Seq, Par, Loop, LoopOne}
+use Rattle.vir_rules.specs.declared.row.Shape.TheVariants.{Any, ModuleOf, Rev, Seq, Par, Loop, LoopOne, Until, UntilOne}
 use Rattle.vir_rules.specs.declared.row.Pairing.{Pairing}
 use Rattle.vir_rules.specs.declared.row.Conclusion.{Conclusion}
 use Rattle.vir_rules.specs.declared.row.Conclusion.TheVariants.{Has, Apart}
@@ -56,6 +56,7 @@ is_same-one Cc Cc h = refl
 is_same-one Dcc Dcc h = refl
 is_same-one Cprog Cprog h = refl
 is_same-one Ccomp Ccomp h = refl
+is_same-one Neut Neut h = refl
 is_same-one _ _ h = false_true h
 
 -- the letters of a row about a term, where its shape is met
@@ -143,21 +144,45 @@ module _ (q : Prop) (row : Rule) where
       at (seq first second) is proper = false_true is
       at (loop k body) is proper = false_true is
 
-  pub by_loop : row.conclusion ≡ Has (Is q) Loop → ((k : ℕ) (m : Tree) → 1 ≤ k → Row_law (loop k m)) → IsSoundRow row
+  pub by_loop : row.conclusion ≡ Has (Is q) Loop → ((k : ℕ) (m : Tree) → 1 ≤ k → Row_law (loop (exactly k) m)) → IsSoundRow row
   by_loop is law = of_row row (Has (Is q) Loop) is (by_shape q Loop row.premises at row.name)
     where
       at : (t : Tree) → is_shaped Loop (number_of q) (form_of t) ≡ true → IsProper t → Row_law t
-      at (loop k body) is (some, proper) = law k body some
+      at (loop (exactly k) body) is (some, proper) = law k body some
+      at (loop (at_most k) body) is proper = false_true is
       at (leaf l) is proper = false_true is
       at (rev part) is proper = false_true is
       at (seq first second) is proper = false_true is
       at (par first second) is proper = false_true is
 
-  pub by_loop_1 : row.conclusion ≡ Has (Is q) LoopOne → ((m : Tree) → Row_law (loop 1 m)) → IsSoundRow row
+  pub by_loop_1 : row.conclusion ≡ Has (Is q) LoopOne → ((m : Tree) → Row_law (loop (exactly 1) m)) → IsSoundRow row
   by_loop_1 is law = of_row row (Has (Is q) LoopOne) is (by_shape q LoopOne row.premises at row.name)
     where
       at : (t : Tree) → is_shaped LoopOne (number_of q) (form_of t) ≡ true → IsProper t → Row_law t
-      at (loop k body) is proper = subst (λ (j : ℕ). Row_law (loop j body)) (sym (eqb-true k 1 is)) (law body)
+      at (loop (exactly k) body) is proper = subst (λ (j : ℕ). Row_law (loop (exactly j) body)) (sym (eqb-true k 1 is)) (law body)
+      at (loop (at_most k) body) is proper = false_true is
+      at (leaf l) is proper = false_true is
+      at (rev part) is proper = false_true is
+      at (seq first second) is proper = false_true is
+      at (par first second) is proper = false_true is
+
+  pub by_until : row.conclusion ≡ Has (Is q) Until → ((k : ℕ) (m : Tree) → 1 ≤ k → Row_law (loop (at_most k) m)) → IsSoundRow row
+  by_until is law = of_row row (Has (Is q) Until) is (by_shape q Until row.premises at row.name)
+    where
+      at : (t : Tree) → is_shaped Until (number_of q) (form_of t) ≡ true → IsProper t → Row_law t
+      at (loop (at_most k) body) is (some, proper) = law k body some
+      at (loop (exactly k) body) is proper = false_true is
+      at (leaf l) is proper = false_true is
+      at (rev part) is proper = false_true is
+      at (seq first second) is proper = false_true is
+      at (par first second) is proper = false_true is
+
+  pub by_until_1 : row.conclusion ≡ Has (Is q) UntilOne → ((m : Tree) → Row_law (loop (at_most 1) m)) → IsSoundRow row
+  by_until_1 is law = of_row row (Has (Is q) UntilOne) is (by_shape q UntilOne row.premises at row.name)
+    where
+      at : (t : Tree) → is_shaped UntilOne (number_of q) (form_of t) ≡ true → IsProper t → Row_law t
+      at (loop (at_most k) body) is proper = subst (λ (j : ℕ). Row_law (loop (at_most j) body)) (sym (eqb-true k 1 is)) (law body)
+      at (loop (exactly k) body) is proper = false_true is
       at (leaf l) is proper = false_true is
       at (rev part) is proper = false_true is
       at (seq first second) is proper = false_true is

@@ -8,9 +8,10 @@ use Rattle.vir_altset.specs.Splits.{IsSplitOf}
 use Rattle.vir_altset.specs.declared.split.Split.{Split}
 use Rattle.vir_altset.proofs.SizeLaws.{empty_of_len, len-make_up}
 use Rattle.vir_profile.specs.declared.ballot.Entry.{Entry}
-use Rattle.vir_profile.specs.Profiles.{IsProfileOn}
+use Rattle.vir_mean.specs.Elections.{IsElection}
 use Rattle.vir_term.specs.declared.prop.Prop.TheVariants.{Ne, Defers, Rejects, Elim, Nb, Decr}
 use Rattle.vir_mean.specs.Modules.{Meaning, first_passed, first_dropped}
+use Rattle.vir_term.specs.Tree.{exactly, at_most}
 use Rattle.vir_mean.specs.Compositions.{seq_of, par_of, loop_of}
 use Rattle.vir_mean.specs.Properties.{Holds}
 use Rattle.vir_mean.specs.Disjointness.{AreDisjoint}
@@ -28,7 +29,7 @@ rejects_leaf k order some a p on size = let first = len-first_members k order a 
 
 -- ---- sequences
 -- what elects nobody and doesn't reject all defers some
-len-deferred : (m : Meaning) → Splits m → Holds Ne m → Holds Nb m → (a : Set) (p : List Entry) → IsProfileOn a p → 1 ≤ set.len a → 1 ≤ set.len (m a p).deferred
+len-deferred : (m : Meaning) → Splits m → Holds Ne m → Holds Nb m → (a : Set) (p : List Entry) → IsElection a p → 1 ≤ set.len a → 1 ≤ set.len (m a p).deferred
 len-deferred m splits nobody keeps a p on size =
     some_of (m a p).deferred (λ none. keeps a p on (not_empty a size) (all_rejected a (m a p) (splits a p) (nobody a p on) none))
 
@@ -39,9 +40,9 @@ pub defers_seq_both : (k : ℕ) (m n : Meaning) → Splits m → Splits n → Ho
 defers_seq_both k m n splits other first second a p on size = second _ _ (deferred_profile m splits a p on) (let left = first a p on size in omega arith)
 
 -- ---- loops
-pub defers_loop_elim : (k : ℕ) (m : Meaning) → 1 ≤ k → Splits m → Holds (Elim 1) m → Holds Ne m → Holds (Defers k) (loop_of k m)
+pub defers_loop_elim : (k : ℕ) (m : Meaning) → 1 ≤ k → Splits m → Holds (Elim 1) m → Holds Ne m → Holds (Defers k) (loop_of (exactly k) m)
 defers_loop_elim k m some splits one nobody =
-    by_turns k m splits (λ a p s. k ≤ set.len a → set.len s.deferred ≡ k)
+    by_turns (exactly k) m splits (λ a p s. k ≤ set.len a → set.len s.deferred ≡ k)
     (λ a p on few size. few)
     (λ a p on many whole size.
     let gone = one a p on (omega arith) in
@@ -53,10 +54,34 @@ defers_loop_elim k m some splits one nobody =
     let all = len_of_not_elected a (m a p) (splits a p) (nobody a p on) in
     rest (omega arith))
 
-pub defers_loop_one : (m : Meaning) → Splits m → Holds Ne m → Holds Nb m → Holds Decr m → Holds (Defers 1) (loop_of 1 m)
+pub defers_loop_one : (m : Meaning) → Splits m → Holds Ne m → Holds Nb m → Holds Decr m → Holds (Defers 1) (loop_of (exactly 1) m)
 defers_loop_one m splits nobody keeps drops =
-    by_turns 1 m splits (λ a p s. 1 ≤ set.len a → set.len s.deferred ≡ 1)
+    by_turns (exactly 1) m splits (λ a p s. 1 ≤ set.len a → set.len s.deferred ≡ 1)
     (λ a p on few size. few)
+    (λ a p on many whole size.
+    let all = len_of_not_elected a (m a p) (splits a p) (nobody a p on) in
+    let same = ap set.len whole in
+    absurd (drops a p on (omega arith) (empty_of_len (m a p).rejected (omega arith))))
+    (λ a p on many smaller rest size. rest (len-deferred m splits nobody keeps a p on size))
+
+pub defers_until_elim : (k : ℕ) (m : Meaning) → 1 ≤ k → Splits m → Holds (Elim 1) m → Holds Ne m → Holds (Defers k) (loop_of (at_most k) m)
+defers_until_elim k m some splits one nobody =
+    by_turns (at_most k) m splits (λ a p s. k ≤ set.len a → set.len s.deferred ≡ k)
+    (λ a p on few size. omega arith)
+    (λ a p on many whole size.
+    let gone = one a p on (omega arith) in
+    let all = len_of_not_elected a (m a p) (splits a p) (nobody a p on) in
+    let same = ap set.len whole in
+    absurd (omega arith))
+    (λ a p on many smaller rest size.
+    let gone = one a p on (omega arith) in
+    let all = len_of_not_elected a (m a p) (splits a p) (nobody a p on) in
+    rest (omega arith))
+
+pub defers_until_one : (m : Meaning) → Splits m → Holds Ne m → Holds Nb m → Holds Decr m → Holds (Defers 1) (loop_of (at_most 1) m)
+defers_until_one m splits nobody keeps drops =
+    by_turns (at_most 1) m splits (λ a p s. 1 ≤ set.len a → set.len s.deferred ≡ 1)
+    (λ a p on few size. omega arith)
     (λ a p on many whole size.
     let all = len_of_not_elected a (m a p) (splits a p) (nobody a p on) in
     let same = ap set.len whole in

@@ -5,7 +5,7 @@ use Rattle.std.specs.FinSet as set
 use Rattle.vir_altset.specs.Sets.{Set}
 use Rattle.vir_altset.specs.SetLaws.{contains-empty}
 use Rattle.vir_profile.specs.declared.ballot.Entry.{Entry}
-use Rattle.vir_profile.specs.Profiles.{IsProfileOn}
+use Rattle.vir_mean.specs.Elections.{IsElection}
 use Rattle.vir_profile.specs.Winners.{IsCondorcetWinner}
 use Rattle.vir_term.specs.declared.leaf.Leaf.{Leaf}
 use Rattle.vir_term.specs.declared.leaf.Leaf.TheVariants as leaf
@@ -75,19 +75,19 @@ module _ (f : ℕ → ℤ) (a : Set) (w : ℕ) (member : set.contains a w ≡ tr
       within u v less = grind (arith, ints)
 
 -- a Condorcet winner leads by these scores
-winner_leads : (s : Score) → is_winning s ≡ true → (a : Set) (p : List Entry) (w : ℕ) → IsProfileOn a p → IsCondorcetWinner w a p
+winner_leads : (s : Score) → is_winning s ≡ true → (a : Set) (p : List Entry) (w : ℕ) → IsElection a p → IsCondorcetWinner w a p
     → (y : ℕ) → set.contains a y ≡ true → y ≢ w → score s a p y <ℤ score s a p w
 winner_leads Plurality fits a p w on winner y inside apart = cc fits
 winner_leads Borda fits a p w on winner y inside apart = cc fits
 winner_leads Copeland fits a p w on winner y inside apart = copeland_leads a p w winner y inside apart
-winner_leads Minimax fits a p w on winner y inside apart = minimax_leads a p w winner y inside apart on
+winner_leads Minimax fits a p w on winner y inside apart = minimax_leads a p w winner y inside apart on.lists
 winner_leads Condorcet fits a p w on winner y inside apart = condorcet_leads a p w winner y inside apart
 
 -- and is above the average by these
-winner_above : (s : Score) → is_above_average s ≡ true → (a : Set) (p : List Entry) (w : ℕ) → IsProfileOn a p → IsCondorcetWinner w a p
+winner_above : (s : Score) → is_above_average s ≡ true → (a : Set) (p : List Entry) (w : ℕ) → IsElection a p → IsCondorcetWinner w a p
     → 2 ≤ set.len a → sum_of (score s a p) a <ℤ scaled (score s a p) a w
 winner_above Plurality fits a p w on winner two = cc fits
-winner_above Borda fits a p w on winner two = borda_above_average a p on w winner two
+winner_above Borda fits a p w on winner two = borda_above_average a p on.lists w winner two
 winner_above Copeland fits a p w on winner two = leader_above (score Copeland a p) a w winner.member two (winner_leads Copeland refl a p w on winner)
 winner_above Minimax fits a p w on winner two = leader_above (score Minimax a p) a w winner.member two (winner_leads Minimax refl a p w on winner)
 winner_above Condorcet fits a p w on winner two = leader_above (score Condorcet a p) a w winner.member two (winner_leads Condorcet refl a p w on winner)

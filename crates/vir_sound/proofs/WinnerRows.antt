@@ -1,6 +1,7 @@
 -- The rules on Condorcet winners. Each row is sound.
 use Rattle.std.proofs.Common.{codes, refl}
 use Rattle.vir_term.specs.declared.prop.Prop.TheVariants.{Cc, Dcc, Cprog, Ccomp}
+use Rattle.vir_term.specs.Tree.{exactly, at_most}
 use Rattle.vir_mean.specs.Meaning.{mean}
 use Rattle.vir_mean.proofs.MeaningLaws.{mean-split}
 use Rattle.vir_rules.specs.declared.row.Family.TheVariants.{Winning, Progressing, Deferring}
@@ -8,11 +9,11 @@ use Rattle.vir_rules.specs.Premises.{row_of}
 use Rattle.vir_rules.specs.Table.{table}
 use Rattle.vir_sound.specs.Truth.{IsSound}
 use Rattle.vir_sound.proofs.WinnerLeaves.{ccomp_leaf, cprog_leaf, dcc_leaf}
-use Rattle.vir_sound.proofs.WinnerLoops.{ccomp_loop, dcc_loop}
+use Rattle.vir_sound.proofs.WinnerLoops.{ccomp_loop, dcc_loop, dcc_until}
 use Rattle.vir_sound.proofs.WinnerParallels.{cc_par, ccomp_par, dcc_par}
 use Rattle.vir_sound.proofs.WinnerRevisions.{ccomp_cc, ccomp_cprog, cprog_dcc, dcc_rev}
 use Rattle.vir_sound.proofs.WinnerSequences.{cc_seq_ccomp, cc_seq_dcc, cc_seq_first, ccomp_seq, cprog_seq_first, cprog_seq_second, dcc_seq_ccomp, dcc_seq_first}
-use Rattle.vir_sound.proofs.Shapes.{by_any, by_loop, by_loop_1, by_module, by_par, by_rev, by_seq}
+use Rattle.vir_sound.proofs.Shapes.{by_any, by_loop, by_until, by_loop_1, by_until_1, by_module, by_par, by_rev, by_seq}
 
 pub cc_seq_first_sound : IsSound 57 (codes "cc-seq-first")
 unfolding row_of table
@@ -84,7 +85,7 @@ ccomp_par_sound = record { named = refl; sound = by_par Ccomp (row_of 73) refl (
 
 pub ccomp_loop_sound : IsSound 74 (codes "ccomp-loop")
 unfolding row_of table
-ccomp_loop_sound = record { named = refl; sound = by_loop Ccomp (row_of 74) refl (λ k m some. ccomp_loop k (mean m) some (mean-split m)) }
+ccomp_loop_sound = record { named = refl; sound = by_loop Ccomp (row_of 74) refl (λ k m some. ccomp_loop (exactly k) (mean m) some (mean-split m)) }
 
 pub ccomp_cprog_sound : IsSound 75 (codes "ccomp-cprog")
 unfolding row_of table
@@ -93,3 +94,11 @@ ccomp_cprog_sound = record { named = refl; sound = by_any Ccomp (row_of 75) refl
 pub ccomp_cc_sound : IsSound 76 (codes "ccomp-cc")
 unfolding row_of table
 ccomp_cc_sound = record { named = refl; sound = by_any Ccomp (row_of 76) refl (λ m. ccomp_cc (mean m) (mean-split m)) }
+
+pub ccomp_until_sound : IsSound 95 (codes "ccomp-until")
+unfolding row_of table
+ccomp_until_sound = record { named = refl; sound = by_until Ccomp (row_of 95) refl (λ k m some. ccomp_loop (at_most k) (mean m) some (mean-split m)) }
+
+pub dcc_until_sound : IsSound 94 (codes "dcc-until")
+unfolding row_of table
+dcc_until_sound = record { named = refl; sound = by_until_1 Dcc (row_of 94) refl (λ m. dcc_until (mean m) (mean-split m)) }

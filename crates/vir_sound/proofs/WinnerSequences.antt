@@ -6,7 +6,8 @@ use Rattle.vir_altset.specs.SetLaws.{same_members}
 use Rattle.vir_altset.specs.declared.split.Split.{Split}
 use Rattle.vir_altset.proofs.SplitLaws.{deferred_part, split_of_empty, join_split}
 use Rattle.vir_profile.specs.declared.ballot.Entry.{Entry}
-use Rattle.vir_profile.specs.Profiles.{IsProfileOn, restrict}
+use Rattle.vir_profile.specs.Profiles.{restrict}
+use Rattle.vir_mean.specs.Elections.{IsElection}
 use Rattle.vir_profile.specs.Winners.{IsCondorcetWinner}
 use Rattle.vir_profile.proofs.WinnerLaws.{condorcet_winner_stays}
 use Rattle.vir_term.specs.declared.prop.Prop.TheVariants.{Ne, El, Nb, Cc, Dcc, Cprog, Ccomp}
@@ -17,7 +18,7 @@ use Rattle.vir_mean.proofs.MeaningLaws.{Splits}
 use Rattle.vir_sound.proofs.WinnerLemmas.{elects, union-empty, empty-union, just_has_some, part_of_just, left_over, defers_alone, elects_alone, joined-elects, joined-defers, joined_compatible}
 use Rattle.vir_sound.proofs.MeaningLemmas.{same_at, union_none, all_rejected, deferred_profile}
 
-module _ (m n : Meaning) (one : Splits m) (other : Splits n) (a : Set) (p : List Entry) (on : IsProfileOn a p) where
+module _ (m n : Meaning) (one : Splits m) (other : Splits n) (a : Set) (p : List Entry) (on : IsElection a p) where
   -- what the first part defers, the profile on it, and what the second part makes of it
   abbrev left : Set
   left = (m a p).deferred
@@ -34,7 +35,7 @@ module _ (m n : Meaning) (one : Splits m) (other : Splits n) (a : Set) (p : List
   later_part : IsPart later.deferred left
   later_part = deferred_part left later (other left rest)
 
-  on_left : IsProfileOn left rest
+  on_left : IsElection left rest
   on_left = deferred_profile m one a p on
 
   wins_left : (w : ℕ) → IsCondorcetWinner w a p → set.contains left w ≡ true → IsCondorcetWinner w left rest

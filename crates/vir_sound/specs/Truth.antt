@@ -2,7 +2,7 @@
 use Rattle.std.specs.Prelude.{◌≡◌, ℕ, ◌≤◌, List, [], ◌∷◌, Some}
 use Rattle.vir_term.specs.declared.leaf.Leaf.{Leaf}
 use Rattle.vir_term.specs.declared.leaf.Leaf.TheVariants.{PassFirst, DropFirst}
-use Rattle.vir_term.specs.Tree.{Tree, leaf, rev, seq, par, loop}
+use Rattle.vir_term.specs.Tree.{Tree, leaf, rev, seq, par, loop, number_of}
 use Rattle.vir_mean.specs.Meaning.{mean}
 use Rattle.vir_mean.specs.Properties.{Holds}
 use Rattle.vir_mean.specs.Disjointness.{AreDisjoint}
@@ -33,7 +33,7 @@ IsProper (leaf l) = IsProperLeaf l
 IsProper (rev part) = IsProper part
 IsProper (seq first second) = IsProper first × IsProper second
 IsProper (par first second) = IsProper first × IsProper second
-IsProper (loop k body) = (1 ≤ k) × IsProper body
+IsProper (loop k body) = (1 ≤ number_of k) × IsProper body
 
 -- A claim is about such terms.
 abbrev pub IsProperClaim : Claim → Type 0

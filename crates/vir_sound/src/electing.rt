@@ -92,3 +92,9 @@ pub fn el_par_right()
 pub fn el_ea()
     ensures { IsSound 15 (codes "el-ea") }
 {}
+
+/// `until(k,m)` has `ne` where m has `ne`.
+#[tactic(auto, using(crate::proofs::ElectingRows::ne_until_sound))]
+pub fn ne_until()
+    ensures { IsSound 89 (codes "ne-until") }
+{}

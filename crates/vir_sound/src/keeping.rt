@@ -80,3 +80,9 @@ pub fn decr_rejects()
 pub fn decr_defers()
     ensures { IsSound 36 (codes "decr-defers") }
 {}
+
+/// `until(k,m)` has `nb` where m has `nb`.
+#[tactic(auto, using(crate::proofs::KeepingRows::nb_until_sound))]
+pub fn nb_until()
+    ensures { IsSound 92 (codes "nb-until") }
+{}

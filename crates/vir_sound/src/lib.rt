@@ -4,8 +4,8 @@
 //! A judgement is true where what it says holds of the meaning of its terms on every finite set of
 //! alternatives and every profile on it, of whatever size (`specs/Truth.antt`). The one contract of this
 //! layer is a law for each rule, named after it: where the premises are true, so is the conclusion. The
-//! laws stand by what they conclude in `electing.rt`, `sizes.rt`, `keeping.rt`, `lifts.rt`, `winners.rt`
-//! and `disjoint.rt`; from them follows that a judgement with a valid derivation is true
+//! laws stand by what they conclude in `electing.rt`, `sizes.rt`, `keeping.rt`, `lifts.rt`, `winners.rt`,
+//! `neutral.rt` and `disjoint.rt`; from them follows that a judgement with a valid derivation is true
 //! (`soundness.rt`). Terms are to name no number of alternatives below 1, as terms within the limits do.
 //! It stands on `vir_mean` for meanings, properties and the facts on scores, and on `vir_rules` for the
 //! table. There is no code here that does anything.
@@ -15,6 +15,7 @@ pub mod disjoint;
 pub mod electing;
 pub mod keeping;
 pub mod lifts;
+pub mod neutral;
 pub mod sizes;
 mod soundness;
 pub mod winners;

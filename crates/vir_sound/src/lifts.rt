@@ -122,3 +122,9 @@ pub fn mono_ea()
 pub fn mono_imono()
     ensures { IsSound 56 (codes "mono-imono") }
 {}
+
+/// `until(k,m)` has `dli` where m has `dli`.
+#[tactic(auto, using(crate::proofs::LiftRows::dli_until_sound))]
+pub fn dli_until()
+    ensures { IsSound 93 (codes "dli-until") }
+{}

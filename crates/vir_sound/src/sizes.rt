@@ -52,3 +52,15 @@ pub fn elim_par_left()
 pub fn elim_par_right()
     ensures { IsSound 23 (codes "elim-par-right") }
 {}
+
+/// `until(k,m)` has `defers(k)` where m has `elim(1)` and `ne`.
+#[tactic(auto, using(crate::proofs::SizeRows::defers_until_elim_sound))]
+pub fn defers_until_elim()
+    ensures { IsSound 90 (codes "defers-until-elim") }
+{}
+
+/// `until(1,m)` has `defers(1)` where m has `ne`, `nb` and `decr`.
+#[tactic(auto, using(crate::proofs::SizeRows::defers_until_one_sound))]
+pub fn defers_until_one()
+    ensures { IsSound 91 (codes "defers-until-one") }
+{}

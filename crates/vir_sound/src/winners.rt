@@ -122,3 +122,15 @@ pub fn ccomp_cprog()
 pub fn ccomp_cc()
     ensures { IsSound 76 (codes "ccomp-cc") }
 {}
+
+/// `until(1,m)` has `dcc` where m has `cprog`.
+#[tactic(auto, using(crate::proofs::WinnerRows::dcc_until_sound))]
+pub fn dcc_until()
+    ensures { IsSound 94 (codes "dcc-until") }
+{}
+
+/// `until(k,m)` has `ccomp` where m has `ccomp`.
+#[tactic(auto, using(crate::proofs::WinnerRows::ccomp_until_sound))]
+pub fn ccomp_until()
+    ensures { IsSound 95 (codes "ccomp-until") }
+{}

@@ -4,7 +4,7 @@ use Rattle.vir_term.specs.declared.leaf.Leaf.{Leaf}
 use Rattle.vir_term.specs.declared.leaf.Leaf.TheVariants.{PassFirst, DropFirst}
 use Rattle.vir_term.specs.declared.limits.TheConstants.{COUNT_LIMIT, NESTING_LIMIT, SIZE_LIMIT}
 use Rattle.vir_term.specs.Orders.{order_fault}
-use Rattle.vir_term.specs.Tree.{Tree, leaf, rev, seq, par, loop, size, nesting}
+use Rattle.vir_term.specs.Tree.{Tree, leaf, rev, seq, par, loop, number_of, size, nesting}
 
 -- the greatest size
 abbrev pub size_limit : ℕ
@@ -39,7 +39,7 @@ IsInRange (leaf l) = IsLeafInRange l
 IsInRange (rev part) = IsInRange part
 IsInRange (seq first second) = IsInRange first × IsInRange second
 IsInRange (par first second) = IsInRange first × IsInRange second
-IsInRange (loop k body) = IsCount k × IsInRange body
+IsInRange (loop k body) = IsCount (number_of k) × IsInRange body
 
 -- a term of at most this size and nesting, with numbers and orders in range
 pub record IsWithinLimits (t : Tree) : Type 0 where

@@ -4,7 +4,7 @@ use Rattle.vir_term.specs.declared.score.Score.{Score}
 use Rattle.vir_term.specs.declared.score.Score.TheVariants as score
 use Rattle.vir_term.specs.declared.leaf.Leaf.{Leaf}
 use Rattle.vir_term.specs.declared.leaf.Leaf.TheVariants.{Elect, Defer, PassFirst, DropFirst, Plurality, Max, Min, Below, Upto}
-use Rattle.vir_term.specs.Tree.{Tree, leaf, rev, seq, par, loop}
+use Rattle.vir_term.specs.Tree.{Tree, leaf, rev, seq, par, loop, End, exactly, at_most, number_of}
 
 -- the word of a score
 abbrev pub score_text : Score → List ℕ
@@ -36,10 +36,15 @@ leaf_text (Min s) = codes "min(" ++ score_text s ++ codes ")"
 leaf_text (Below s) = codes "below(" ++ score_text s ++ codes ")"
 leaf_text (Upto s) = codes "upto(" ++ score_text s ++ codes ")"
 
+-- the word of a loop, by where it ends
+abbrev pub loop_word : End → List ℕ
+loop_word (exactly k) = codes "loop("
+loop_word (at_most k) = codes "until("
+
 -- a term, without spaces
 abbrev pub term_text : Tree → List ℕ
 term_text (leaf l) = leaf_text l
 term_text (rev part) = codes "rev(" ++ term_text part ++ codes ")"
 term_text (seq first second) = codes "seq(" ++ term_text first ++ codes "," ++ term_text second ++ codes ")"
 term_text (par first second) = codes "par(" ++ term_text first ++ codes "," ++ term_text second ++ codes ")"
-term_text (loop k body) = codes "loop(" ++ decimal k ++ codes "," ++ term_text body ++ codes ")"
+term_text (loop k body) = loop_word k ++ decimal (number_of k) ++ codes "," ++ term_text body ++ codes ")"

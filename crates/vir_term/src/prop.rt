@@ -39,4 +39,6 @@ pub enum Prop {
     Cprog,
     /// Condorcet compatibility: a Condorcet winner isn't rejected, and no other alternative is elected.
     Ccomp,
+    /// Neutrality: the result on renamed alternatives is the renamed result.
+    Neut,
 }

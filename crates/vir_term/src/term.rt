@@ -23,6 +23,8 @@ pub enum Term {
     /// Loop composition: the rule decides again and again on what it defers, until that is `k`
     /// alternatives, or all that it was handed.
     Loop { k: u32, body: Box<Term> },
+    /// The same, until that is at most `k` alternatives, or all that it was handed.
+    Until { k: u32, body: Box<Term> },
 }
 
 impl Term {
@@ -35,7 +37,7 @@ impl Term {
             Term::Leaf(_) => 1,
             Term::Rev(part) => 1 + part.size(),
             Term::Seq(first, second) | Term::Par(first, second) => 1 + first.size() + second.size(),
-            Term::Loop { body, .. } => 1 + body.size(),
+            Term::Loop { body, .. } | Term::Until { body, .. } => 1 + body.size(),
         }
     }
 
@@ -64,7 +66,7 @@ impl Term {
                 let room = first.room_left(room - 1, levels - 1)?;
                 second.room_left(room, levels - 1)
             }
-            Term::Loop { k, body } => {
+            Term::Loop { k, body } | Term::Until { k, body } => {
                 if is_count(*k) {
                     body.room_left(room - 1, levels - 1)
                 } else {
@@ -88,7 +90,7 @@ impl Term {
             Term::Seq(first, second) | Term::Par(first, second) => {
                 first.nests_within(levels - 1) && second.nests_within(levels - 1)
             }
-            Term::Loop { body, .. } => body.nests_within(levels - 1),
+            Term::Loop { body, .. } | Term::Until { body, .. } => body.nests_within(levels - 1),
         }
     }
 
@@ -104,6 +106,8 @@ impl Term {
             (Term::Par(first, second), Term::Par(other, next)) => first.equals(other)
                 && second.equals(next),
             (Term::Loop { k, body }, Term::Loop { k: l, body: other }) => k == l
+                && body.equals(other),
+            (Term::Until { k, body }, Term::Until { k: l, body: other }) => k == l
                 && body.equals(other),
             _ => false,
         }
@@ -134,6 +138,10 @@ impl Term {
                 Box::new(alloc, second.copy(alloc)?)?,
             )),
             Term::Loop { k, body } => Ok(Term::Loop {
+                k: *k,
+                body: Box::new(alloc, body.copy(alloc)?)?,
+            }),
+            Term::Until { k, body } => Ok(Term::Until {
                 k: *k,
                 body: Box::new(alloc, body.copy(alloc)?)?,
             }),

@@ -106,5 +106,12 @@ pub fn push_term(text: &mut Vec<u8>, term: &Term) -> Result<(), AllocError>
             push_term(text, body)?;
             text.extend_from_slice(b")")
         }
+        Term::Until { k, body } => {
+            text.extend_from_slice(b"until(")?;
+            push_number(text, *k)?;
+            text.extend_from_slice(b",")?;
+            push_term(text, body)?;
+            text.extend_from_slice(b")")
+        }
     }
 }

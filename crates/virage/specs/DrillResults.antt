@@ -12,7 +12,7 @@ use Rattle.vir_term.specs.declared.leaf.LeafKind.{LeafKind}
 use Rattle.vir_term.specs.declared.score.Score.TheVariants.{Borda, Copeland}
 use Rattle.vir_term.specs.Limits.{IsWithinLimits}
 use Rattle.vir_term.specs.Text.{term_text}
-use Rattle.vir_term.specs.Tree.{Tree, leaf, seq, loop}
+use Rattle.vir_term.specs.Tree.{Tree, leaf, seq, loop, exactly}
 use Rattle.vir_report.specs.ResultText.{set_line}
 use Rattle.virage.specs.Runs.{BenchView, Run, after_runs}
 
@@ -22,7 +22,7 @@ drill_terms =
     leaf Plurality
     ∷ seq (leaf (Max Borda)) (leaf Elect)
     ∷ seq (leaf (Max Copeland)) (leaf Elect)
-    ∷ seq (loop 1 (leaf (Min Borda))) (leaf Elect)
+    ∷ seq (loop (exactly 1) (leaf (Min Borda))) (leaf Elect)
     ∷ []
 
 -- the first module of these terms, one after another, that isn't served

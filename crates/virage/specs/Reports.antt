@@ -15,13 +15,13 @@ use Rattle.vir_rules.specs.Reasons.{Reason, AreReasons}
 use Rattle.vir_rules.specs.RuleTrees.{RuleTree}
 use Rattle.vir_rules.specs.Texts.{derivation_text}
 use Rattle.vir_term.specs.declared.prop.Prop.{Prop}
-use Rattle.vir_term.specs.declared.prop.Prop.TheVariants.{Ne, Ea, El, Defers, Rejects, Elim, Nb, Decr, Dli, Imono, Dimono, Dmono, Mono, Cc, Dcc, Cprog, Ccomp}
+use Rattle.vir_term.specs.declared.prop.Prop.TheVariants.{Ne, Ea, El, Defers, Rejects, Elim, Nb, Decr, Dli, Imono, Dimono, Dmono, Mono, Cc, Dcc, Cprog, Ccomp, Neut}
 use Rattle.vir_term.specs.Text.{term_text}
 use Rattle.vir_term.specs.Tree.{Tree}
 
 -- the properties that are reported, in their order
 abbrev pub reported : List Prop
-reported = Ne ∷ Ea ∷ El ∷ Defers 1 ∷ Rejects 1 ∷ Elim 1 ∷ Nb ∷ Decr ∷ Dli ∷ Imono ∷ Dimono ∷ Dmono ∷ Mono ∷ Cc ∷ Dcc ∷ Cprog ∷ Ccomp ∷ []
+reported = Ne ∷ Ea ∷ El ∷ Defers 1 ∷ Rejects 1 ∷ Elim 1 ∷ Nb ∷ Decr ∷ Dli ∷ Imono ∷ Dimono ∷ Dmono ∷ Mono ∷ Cc ∷ Dcc ∷ Cprog ∷ Ccomp ∷ Neut ∷ []
 
 -- what is found of a property: a derivation, or the reasons against one
 pub data Finding : Type 0 where

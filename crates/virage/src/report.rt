@@ -33,7 +33,7 @@ use vir_rules::{Derivation, Prop, Why};
 use vir_term::Term;
 
 /// The properties that are reported, in their order.
-const REPORTED: [Prop; 17] = [
+const REPORTED: [Prop; 18] = [
     Prop::Ne,
     Prop::Ea,
     Prop::El,
@@ -51,6 +51,7 @@ const REPORTED: [Prop; 17] = [
     Prop::Dcc,
     Prop::Cprog,
     Prop::Ccomp,
+    Prop::Neut,
 ];
 
 // Appends the line of a name.

@@ -57,6 +57,7 @@ underived cprog
 - cprog-seq-second 3 cprog of elect
 - cprog-dcc 1 dcc of seq(max(copeland),elect)
 holds ccomp ccomp-cc(cc-seq-dcc(dcc-leaf,el-leaf))
+holds neut neut-seq(neut-leaf,neut-leaf)
 ";
 
 // A profile with names of two of its alternatives, and the lines on it.

@@ -90,6 +90,15 @@ const LISTED: &[u8] = b"0 start-loop
 8 join-seq
 ";
 
+const UNTIL: &[u8] = b"r = until(2,min(plurality));";
+
+const UNTIL_LISTED: &[u8] = b"0 start-loop
+1 until-test 2 4
+2 call min(plurality)
+3 loop-back 1
+4 end-loop
+";
+
 const DRILL: &[&str] = &["drill", "0", "1", "3"];
 
 const DRILLED: &[u8] = b"lines 1 voters 1 alternatives 3
@@ -165,6 +174,7 @@ const ROWS: &[Row] = &[
         b"text refused: BadByte at byte 26\n",
     ),
     (LISTING, LOOPED, DIVIDED, 0, LISTED, b""),
+    (LISTING, UNTIL, DIVIDED, 0, UNTIL_LISTED, b""),
     (LISTING, b"", DIVIDED, 3, b"", EMPTY),
     (&["listing", "other.vir"], ELECT, DIVIDED, 5, b"", UNREAD),
     (DRILL, ELECT, DIVIDED, 0, DRILLED, b""),
@@ -270,6 +280,21 @@ const RULES: &[(&[u8], &[u8], &[u8])] = &[
     ),
     (SEQUENTIAL_MAJORITY, DIVIDED, SECOND_WINS),
     (b"r = loop(1,min(borda));", CYCLE, ALL_DEFERRED),
+    (
+        b"r = until(2,min(plurality));",
+        DIVIDED,
+        b"elected:\nrejected: 3\ndeferred: 1 2\n",
+    ),
+    (
+        b"r = until(2,drop(2));",
+        DIVIDED,
+        b"elected:\nrejected: 1 2\ndeferred: 3\n",
+    ),
+    (
+        b"r = loop(2,drop(2));",
+        DIVIDED,
+        b"elected:\nrejected: 1 2 3\ndeferred:\n",
+    ),
     (
         b"r = seq(drop(2),elect);",
         ALONE,

@@ -23,5 +23,5 @@ loop-i-preserved c =
 
 pub returns : goal.returns
 returns c =
-    let end : c.loop-i.i ≡ 82 = omega arith in
+    let end : c.loop-i.i ≡ 95 = omega arith in
     all_reasons c.loop-i.i (claimed c.args.self) (reasons_seen c.loop-i.why) end c.loop-i.invariant

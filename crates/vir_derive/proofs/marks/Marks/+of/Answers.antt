@@ -1,5 +1,5 @@
-use Rattle.std.proofs.Common.{◌≡◌, ◌⊎◌, ℕ, sym, ◌∙◌, ap, subst, inl, inr}
-use Rattle.vir_term.specs.Tree.{Tree, tree, rev, seq, par, loop}
+use Rattle.std.proofs.Common.{◌≡◌, ◌⊎◌, sym, ◌∙◌, ap, subst, inl, inr}
+use Rattle.vir_term.specs.Tree.{Tree, End, exactly, at_most, tree, rev, seq, par, loop}
 use Rattle.vir_rules.specs.Forms.{form_seen}
 use Rattle.vir_derive.specs.Heads.{are_opposed}
 use Rattle.vir_derive.specs.Marks.{AreMarks}
@@ -10,10 +10,13 @@ pub returns-in_ok-part-in-Rev : goal.returns-in_ok-part-in-Rev
 returns-in_ok-part-in-Rev t c =
     let m : Tree = tree c.deref-in-Rev.result.now in
     let part : rev (tree c.in-Rev.part.value) ≡ rev m = ap (λ x. rev (tree x)) (sym c.deref-in-Rev.ensures) in
-    let body : (k : ℕ) → loop k (tree c.in-Rev.part.value) ≡ loop k m = λ k. ap (λ x. loop k (tree x)) (sym c.deref-in-Rev.ensures) in
-    let e : (tree c.args.term.now ≡ rev m) ⊎ ((k : ℕ) × (tree c.args.term.now ≡ loop k m)) = elim c.in-Rev.is [
+    let body : (k : End) → loop k (tree c.in-Rev.part.value) ≡ loop k m = λ k. ap (λ x. loop k (tree x)) (sym c.deref-in-Rev.ensures) in
+    let e : (tree c.args.term.now ≡ rev m) ⊎ ((k : End) × (tree c.args.term.now ≡ loop k m)) = elim c.in-Rev.is [
       | inl is ↦ inl (ap tree is ∙ part)
-      | inr is ↦ inr (is.0, ap tree is.1 ∙ body is.0)
+      | inr further ↦ elim further [
+        | inl is ↦ inr (exactly is.0, ap tree is.1 ∙ body (exactly is.0))
+        | inr is ↦ inr (at_most is.0, ap tree is.1 ∙ body (at_most is.0))
+      ]
     ] in
     rev_or_loop c.join_one.result (tree c.args.term.now) m (form_seen c.of-in-Rev-2.result) c.in_ok-part-in-Rev.part c.of-in-Rev-2.ensures e c.join_one.ensures c.in_ok-part-in-Rev.ensures
 

@@ -1,0 +1,9 @@
+-- Where a loop ends, as the code says it.
+use Rattle.vir_term.specs.Tree.{End, exactly, at_most}
+use Rattle.vir_mean.specs.declared.ending.Ending.{Ending}
+use Rattle.vir_mean.specs.declared.ending.Ending.TheVariants.{Exactly, AtMost}
+
+-- the end that is meant
+abbrev pub end_of : Ending → End
+end_of (Exactly k) = exactly k
+end_of (AtMost k) = at_most k
