@@ -50,7 +50,7 @@ at_most n m h = grind (arith, nat_tests)
 
 -- ---- numbers and orders
 
-count_of_ok : (text : List ℕ) (t : RawTree) (k : ℕ) → count_of text t ≡ Ok k → IsCount k
+pub count_of_ok : (text : List ℕ) (t : RawTree) (k : ℕ) → count_of text t ≡ Ok k → IsCount k
 count_of_ok text (number start end) k h = let r = ranged_ok count_limit start (value_at text start end) k h in record { some = r.0; few = r.1 }
 count_of_ok text (word start end parts) k h = cc
 count_of_ok text (bracket start members) k h = cc

@@ -27,7 +27,7 @@ use Rattle.vir_read.proofs.RoundTripTyping.{digits_are_read, no_fault, member_is
 
 -- ---- runs of bytes
 
-both : (a b : Bool) → (a && b) ≡ true → (a ≡ true) × (b ≡ true)
+pub both : (a b : Bool) → (a && b) ≡ true → (a ≡ true) × (b ≡ true)
 both true b h = (refl, h)
 both false b h = cc
 
@@ -152,7 +152,7 @@ run-digits : (after : List ℕ) → run is_word_byte after ≡ 0 → run is_digi
 run-digits [] h = refl
 run-digits (b ∷ rest) h = rw (digit_is_word_byte b (no_word_byte b rest h)) refl
 
-span-here : (before w after : List ℕ) → span (before ++ (w ++ after)) (length before) (length before + length w) ≡ w
+pub span-here : (before w after : List ℕ) → span (before ++ (w ++ after)) (length before) (length before + length w) ≡ w
 span-here before w after =
     let n : (length before + length w) - length before ≡ length w = omega arith in
     ap (take ((length before + length w) - length before)) (drop-append_seam before (w ++ after)) ∙ ap (λ n. take n (w ++ after)) n ∙ take-append_seam w after
@@ -222,20 +222,20 @@ numeral_of (d ∷ rest) h k = all_digits (d ∷ rest) h where
   all_digits [] h = refl
   all_digits (d ∷ rest) h = rw (is_digit-between d (digit_from_value d h.0), all_digits rest h.1) refl
 
-decimal_is_numeral : (n : ℕ) → n ≤ count_limit → IsNumeral (decimal n)
+pub decimal_is_numeral : (n : ℕ) → n ≤ count_limit → IsNumeral (decimal n)
 decimal_is_numeral n h =
     let small : n < 2 ^ 64 = omega (arith, lit< {m = count_limit} {n = 2 ^ 64} tt) in
     let P : List ℕ → Type 0 = AllDigits 10 in
     numeral_of (decimal n) (digits_decimal {P = P} digits_are_read n small) (decimal_nonempty n small)
 
-apart-of : (w : List ℕ) (ps : List Piece) → IsName w → AreApart ps → AreApart (pieces_of w ps)
+pub apart-of : (w : List ℕ) (ps : List Piece) → IsName w → AreApart ps → AreApart (pieces_of w ps)
 apart-of w ps n a = (n, refl, (refl, are_apart-append ps (sign 41 ∷ []) a refl (refl, tt)))
 
 apart-of_two : (w : List ℕ) (ps qs : List Piece) → IsName w → AreApart ps → AreApart qs → AreApart (pieces_of_two w ps qs)
 apart-of_two w ps qs n a b =
     (n, refl, (refl, are_apart-append ps (sign 44 ∷ (qs ++ sign 41 ∷ [])) a refl (refl, are_apart-append qs (sign 41 ∷ []) b refl (refl, tt))))
 
-apart-number : (k : ℕ) → k ≤ count_limit → AreApart (digits k ∷ [])
+pub apart-number : (k : ℕ) → k ≤ count_limit → AreApart (digits k ∷ [])
 apart-number k h = (decimal_is_numeral k h, tt, tt)
 
 -- further members of a fixed order, and its closing bracket

@@ -117,7 +117,7 @@ module _ (text : List ℕ) where
   Readable need ps Kind = (room : ℕ) (tokens : List Token) → need ≤ room → SayAll text ps tokens → (rest : List Token) → OpensNothing text rest →
       (raw : RawTree) × Kind raw × (tree_within text room (tokens ++ rest) ≡ Ok (raw, rest))
 
-  readable-word : (w : List ℕ) (need : ℕ) → Readable need (name w ∷ []) (IsWord text w none)
+  pub readable-word : (w : List ℕ) (need : ℕ) → Readable need (name w ∷ []) (IsWord text w none)
   unfolding tree_within
   readable-word w need zero tokens h says rest opens_nothing =
       let k = said_last text (name w) tokens says in (
@@ -132,7 +132,7 @@ module _ (text : List ℕ) where
         ap (λ ts. tree_within text (suc room) (ts ++ rest)) k.1 ∙ rw (symbol-word w k.0 k.2) (behind_word-alone (Some (tree_within text room)) k.0 rest opens_nothing),
       )
 
-  readable-number : (n need : ℕ) → Readable need (digits n ∷ []) (IsNumber text n)
+  pub readable-number : (n need : ℕ) → Readable need (digits n ∷ []) (IsNumber text n)
   unfolding tree_within
   readable-number n need zero tokens h says rest opens_nothing =
       let k = said_last text (digits n) tokens says in (
@@ -151,7 +151,7 @@ module _ (text : List ℕ) where
   roomier : (ps : List Piece) (need need' : ℕ) (Kind : RawTree → Type 0) → need ≤ need' → Readable need ps Kind → Readable need' ps Kind
   roomier ps need need' Kind h reads room tokens enough = reads room tokens (omega arith)
 
-  readable-of : (w : List ℕ) (ps : List Piece) (need : ℕ) (First : RawTree → Type 0) → Readable need ps First →
+  pub readable-of : (w : List ℕ) (ps : List Piece) (need : ℕ) (First : RawTree → Type 0) → Readable need ps First →
       Readable (need + 1) (pieces_of w ps) (IsOf text w First)
   readable-of w ps need First reads zero tokens h says rest opens_nothing = absurd (omega arith)
   readable-of w ps need First reads (suc room) tokens h says rest opens_nothing =

@@ -37,7 +37,7 @@ value_after-digits (d ∷ rest) n h =
 pub digits_are_read : IsNumeralModel (AllDigits 10) (value_after 0)
 digits_are_read = record { to = λ ds h. h; from = λ ds h. h; same = λ ds h. value_after-digits ds 0 h }
 
-value_after-decimal : (n : ℕ) → n ≤ count_limit → value_after 0 (decimal n) ≡ n
+pub value_after-decimal : (n : ℕ) → n ≤ count_limit → value_after 0 (decimal n) ≡ n
 value_after-decimal n h =
     let P : List ℕ → Type 0 = AllDigits 10 in
     digits_value-decimal {P = P} digits_are_read n (omega (arith, lit< {m = count_limit} {n = 2 ^ 64} tt))
@@ -78,7 +78,7 @@ with_members-numbers text before (x ∷ rest) (more raw others) w h =
 module _ (text : List ℕ) (names : Names) where
   -- ---- arguments
 
-  count_of-number : (raw : RawTree) (k : ℕ) → IsNumber text k raw → IsCount k → count_of text raw ≡ Ok k
+  pub count_of-number : (raw : RawTree) (k : ℕ) → IsNumber text k raw → IsCount k → count_of text raw ≡ Ok k
   count_of-number raw k w h =
       ap (count_of text) w.shape ∙ ap (λ ds. ranged count_limit w.start (value_after 0 ds)) w.written
       ∙ ap (ranged count_limit w.start) (value_after-decimal k h.few) ∙ rw (count_in_range k h) refl

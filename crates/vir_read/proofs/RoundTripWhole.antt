@@ -35,7 +35,7 @@ read-said text t tokens rest within says opens_nothing =
     let found = readable-term text t unclosed_limit tokens enough says rest opens_nothing in
     record { raw = found.0; read = found.2; meant = λ names at. term_of-spelled text names at t found.0 found.1 within }
 
-with_tokens-ok : (tokens rest : List Token) → with_tokens tokens (Ok rest) ≡ Ok (tokens ++ rest)
+pub with_tokens-ok : (tokens rest : List Token) → with_tokens tokens (Ok rest) ≡ Ok (tokens ++ rest)
 with_tokens-ok [] rest = refl
 with_tokens-ok (t ∷ tokens) rest = rw (with_tokens-ok tokens rest) refl
 

@@ -22,7 +22,7 @@ mod token_reader;
 mod tree_reader;
 mod typing;
 
-pub use arguments::{is_known, span};
+pub use arguments::{count_of, is_known, span};
 pub use built_in::{BuiltIn, Eliminator, Ordered, Pair, Plain, built_in_named};
 pub use laws::{
     pieces_are_read, printed_definitions_are_read, printed_terms_are_read, printed_terms_are_short,

@@ -5,3 +5,6 @@ pub mod TreeLaws
 pub mod Firsts
 pub mod Checking
 pub mod ReasonLaws
+pub mod ByName
+pub mod PropTexts
+pub mod ValidRules

@@ -10,4 +10,5 @@ pub mod BadNodes
 pub mod UnfitNames
 pub mod Reasons
 pub mod Texts
+pub mod Named
 pub mod Seen

@@ -1,5 +1,6 @@
 ghost use Rattle.std.specs.Prelude.{ℕ, ◌≡◌, ◌≢◌, ◌+◌, ◌≤◌, if◌then◌else◌, nat_lt, Some, None, IfSome, MatchOption, ⊤};
 ghost use Rattle.vir_rules.specs.Premises.{row_of};
+ghost use Rattle.vir_rules.specs.Named.{rule_named};
 
 use crate::row::Row;
 use crate::table::row_of;
@@ -56,9 +57,9 @@ impl RuleId {
         name
     }
 
-    /// The rule of this name; none where no rule is so called.
-    pub fn named(name: &[u8]) -> Option<RuleId>
-        ensures found { IfSome result (λ rule. (row_of rule).name ≡ name.now) }
+    // The rule of this name, by its name and those of the others.
+    fn find(name: &[u8]) -> Option<RuleId>
+        ensures found { IfSome result (λ rule. ((row_of rule).name ≡ name.now) × (1 ≤ rule) × (rule ≤ RuleId.COUNT)) }
         ensures missing { MatchOption result ((number : ℕ) → 1 ≤ number → number ≤ RuleId.COUNT → (row_of number).name ≢ name.now) (λ rule. ⊤) }
     {
         for i in 0..RuleId::COUNT {
@@ -68,5 +69,17 @@ impl RuleId {
             }
         }
         None
+    }
+
+    /// The rule of this name; none where no rule is so called.
+    pub fn named(name: &[u8]) -> Option<RuleId>
+        ensures exact { result ≡ rule_named name.now }
+        ensures found { IfSome result (λ rule. (row_of rule).name ≡ name.now) }
+        ensures missing { MatchOption result ((number : ℕ) → 1 ≤ number → number ≤ RuleId.COUNT → (row_of number).name ≢ name.now) (λ rule. ⊤) }
+    {
+        match RuleId::find(name) {
+            Some(rule) => Some(rule),
+            None => None,
+        }
     }
 }

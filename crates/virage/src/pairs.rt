@@ -37,6 +37,6 @@ pub fn asks_about_pairs(rule: &Term) -> bool
         Term::Seq(first, second) | Term::Par(first, second) => {
             asks_about_pairs(first) || asks_about_pairs(second)
         }
-        Term::Loop { body, .. } => asks_about_pairs(body),
+        Term::Loop { body, .. } | Term::Until { body, .. } => asks_about_pairs(body),
     }
 }
