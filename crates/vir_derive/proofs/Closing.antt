@@ -1,5 +1,5 @@
 -- The properties with some numbers, 1 and 2 among them, follow from the form and the parts' properties with these numbers.
-use Rattle.std.proofs.Common.{◌≡◌, ℕ, zero, suc, ◌<◌, nat_eq, Bool, true, false, ◌||◌, List, [], ◌∷◌, map, Some, None, slice_get, refl, sym, ◌∙◌, ap, subst, arith}
+use Rattle.std.proofs.Common.{◌≡◌, ℕ, zero, suc, ◌<◌, ◌≤◌, nat_eq, Bool, true, false, ◌||◌, List, [], ◌∷◌, map, Some, None, slice_get, refl, sym, ◌∙◌, ap, subst, arith}
 use Rattle.std.specs.List.{list_all}
 use Rattle.std.proofs.lemmas.Bool.{and_parts, eqb-true}
 use Rattle.vir_term.specs.declared.prop.Prop.{Prop}
@@ -15,16 +15,17 @@ use Rattle.vir_rules.specs.declared.row.Wanted.{Wanted}
 use Rattle.vir_rules.specs.declared.row.Wanted.TheVariants.{Is, DefersK, RejectsK}
 use Rattle.vir_rules.specs.Claims.{Claim, of}
 use Rattle.vir_rules.specs.Derivations.{Derivable, AllDerivable}
-use Rattle.vir_rules.specs.Forms.{form_of, first_part, second_part}
+use Rattle.vir_rules.specs.Forms.{Form, form_of, first_part, second_part}
 use Rattle.vir_rules.specs.Premises.{letters_of, number_in, number_for, prop_for, filled, row_of}
 use Rattle.vir_rules.specs.Props.{rank}
 use Rattle.vir_rules.specs.Table.{Rule, table}
 use Rattle.vir_derive.specs.Signatures.{is_composed}
+use Rattle.vir_derive.specs.Numbers.{is_need_within}
 use Rattle.vir_derive.specs.Within.{is_within, AreAlike, HaveLikeParts}
 use Rattle.vir_derive.proofs.Deriving.{derivable_by, IsServed, served}
 use Rattle.vir_derive.proofs.Disjointness.{disjoint_if_opposed, opposed_if_disjoint}
 use Rattle.vir_derive.proofs.Rows.{no_true, premises_of_rule, premises_by_number, row_passes, fitting, shaped}
-use Rattle.vir_derive.proofs.Smaller.{IsBelow, need_below, rank_for}
+use Rattle.vir_derive.proofs.Smaller.{IsBelow, nth_passes, need_below, rank_for}
 
 one_or_two : ℕ → Bool
 one_or_two k = nat_eq k 1 || nat_eq k 2
@@ -78,6 +79,17 @@ module _ (numbers : ℕ → Bool) (one : numbers 1 ≡ true) (two : numbers 2 �
   asked_within DefersK DefersK q k w e h = (carried DefersK q k w e).0 refl
   asked_within RejectsK RejectsK q k w e h = (carried RejectsK q k w e).1 refl
   asked_within _ _ q k w e h = no_true h
+
+-- what a premise of a rule that fits asks for has one of the numbers, where the conclusion has
+pub need_asked_within : (numbers : ℕ → Bool) → numbers 1 ≡ true → numbers 2 ≡ true → (rule : ℕ) (q : Prop) (form : Form) (k i : ℕ) (need : Need) → 1 ≤ rule → rule ≤ 95 → number_for (row_of rule).conclusion q form ≡ Some k → slice_get (row_of rule).premises i ≡ Some need →
+    is_within numbers q ≡ true → is_need_within numbers k need ≡ true
+unfolding row_within need_within
+need_asked_within numbers one two rule q form k i need l g e at w =
+    by (row_of rule).conclusion need e (nth_passes (need_within (row_of rule).conclusion) (row_of rule).premises i need at (row_passes row_within rule l g table_within)) where
+      by : (conclusion : Conclusion) (need : Need) → number_for conclusion q form ≡ Some k → need_within conclusion need ≡ true → is_need_within numbers k need ≡ true
+      by (Has wanted s) (Of other part) e h = asked_within numbers one two wanted other q k w (shaped wanted s q form k e).0 h
+      by (Has wanted s) (Disj left right) e h = refl
+      by (Apart pairing) need e h = cc
 
 -- alike the other way round
 alike_back : (numbers : ℕ → Bool) (t u : Tree) → AreAlike numbers t u → AreAlike numbers u t

@@ -10,3 +10,4 @@ pub mod PremiseMarks
 pub mod Answering
 pub mod Deciding
 pub mod Closing
+pub mod RowRanges

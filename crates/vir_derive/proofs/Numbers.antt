@@ -21,7 +21,7 @@ use Rattle.vir_rules.specs.Premises.{letters_of, number_for, filled, row_of}
 use Rattle.vir_rules.specs.Table.{Rule, table}
 use Rattle.vir_derive.specs.declared.signature.Signature.{Signature}
 use Rattle.vir_derive.specs.Numbers.{defers_candidate, rejects_candidate}
-use Rattle.vir_derive.specs.Signatures.{is_number, Tells, is_composed}
+use Rattle.vir_derive.specs.Signatures.{TellsWithin, is_number, is_composed}
 use Rattle.vir_derive.proofs.Deriving.{IsServed, served}
 use Rattle.vir_derive.proofs.Rows.{no_true, premises_of_rule, row_passes, fitting, shaped}
 
@@ -153,16 +153,16 @@ is_that None k h = no_true h
 is_that (Some j) k h = ap Some (eqb-true j k h)
 
 -- a signature of the first part has its other number of `defers`
-knows_first : (t : Tree) (first : Signature) (k : ℕ) → nat_eq k 1 ≡ false → (is_composed (form_of t) ≡ true → Tells first (first_part t)) → KnowsFirst t k first.defers_other
-knows_first t first k n tells e d =
+knows_first : (numbers : ℕ → Bool) (t : Tree) (first : Signature) (k : ℕ) → nat_eq k 1 ≡ false → numbers k ≡ true → (is_composed (form_of t) ≡ true → TellsWithin numbers first (first_part t)) → KnowsFirst t k first.defers_other
+knows_first numbers t first k n w tells e d =
     let composed : is_composed (form_of t) ≡ true = ap is_composed e in
-    is_that first.defers_other k (sym (ap (λ b. if b then first.defers_one else is_number first.defers_other k) n) ∙ (tells composed (Defers k)).1 d)
+    is_that first.defers_other k (sym (ap (λ b. if b then first.defers_one else is_number first.defers_other k) n) ∙ (tells composed (Defers k) w).1 d)
 
 -- another number of `defers` is the candidate
-pub defers_number : (t : Tree) (first : Signature) (k : ℕ) → nat_eq k 1 ≡ false → (is_composed (form_of t) ≡ true → Tells first (first_part t)) → Derivable (of (Defers k) t) → defers_candidate (form_of t) first.defers_other ≡ Some k
-defers_number t first k n tells d =
+pub defers_number : (numbers : ℕ → Bool) (t : Tree) (first : Signature) (k : ℕ) → nat_eq k 1 ≡ false → numbers k ≡ true → (is_composed (form_of t) ≡ true → TellsWithin numbers first (first_part t)) → Derivable (of (Defers k) t) → defers_candidate (form_of t) first.defers_other ≡ Some k
+defers_number numbers t first k n w tells d =
     let s = serving (Defers k) t d in
-    defers_by t k s.k first.defers_other (knows_first t first k n tells) n s.row.conclusion s.row.premises s.tied s.number_is s.derivable
+    defers_by t k s.k first.defers_other (knows_first numbers t first k n w tells) n s.row.conclusion s.row.premises s.tied s.number_is s.derivable
 
 -- the number of `rejects` is the candidate
 pub rejects_number : (t : Tree) (k : ℕ) → Derivable (of (Rejects k) t) → rejects_candidate (form_of t) ≡ Some k
@@ -184,7 +184,7 @@ module _ (D : ℕ → Type 0) (candidate : Option ℕ) (k : ℕ) (only : D k →
     same : Some j ≡ Some k → j ≡ k
     same h = cc
 
-  pub candidate_serves : (j : ℕ) → candidate ≡ Some j → D j → (nat_eq j k ≡ true) ↔ D k
-  candidate_serves j e d = ((λ h. subst D (eqb-true j k h) d), (λ w. eq-eqb j k (same (sym e ∙ only w)))) where
+  pub candidate_serves : (j : ℕ) → candidate ≡ Some j → (j ≡ k → D j) → (nat_eq j k ≡ true) ↔ D k
+  candidate_serves j e d = ((λ h. subst D (eqb-true j k h) (d (eqb-true j k h))), (λ w. eq-eqb j k (same (sym e ∙ only w)))) where
     same : Some j ≡ Some k → j ≡ k
     same h = cc

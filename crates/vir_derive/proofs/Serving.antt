@@ -24,7 +24,7 @@ use Rattle.vir_derive.proofs.Numbers.{defers_number, rejects_number}
 use Rattle.vir_derive.proofs.Rows.{rule_range, rule_in_range, premises_of_rule, premises_by_number, premises_by_none}
 
 -- the number and the premises of a rule that fits a term that is seen
-module _ (sight : Sight) (t : Tree) (seen : Shows sight t) (rule : ℕ) (known : is_rule rule ≡ true) (q : Prop) where
+module _ (numbers : ℕ → Bool) (sight : Sight) (t : Tree) (seen : Shows numbers sight t) (rule : ℕ) (known : is_rule rule ≡ true) (q : Prop) where
   number_seen : (o : Option ℕ) → o ≡ number_for (row_of rule).conclusion q (form_seen sight.form) → number_for (row_of rule).conclusion q (form_of t) ≡ o
   number_seen o e = ap (number_for (row_of rule).conclusion q) seen.form_is ∙ sym e
 
@@ -88,18 +88,18 @@ not_derivable w e p = let h = w.1 p in false_true (sym e ∙ h) where
 abbrev Telling : Sight → Tree → ℕ → Need → Type 0
 Telling sight t k need = (sight.opposed ≡ true → Derivable (filled (letters_of t k) need)) × (Derivable (filled (letters_of t k) need) → sight.opposed ≡ true)
 
-parts_told : (sight : Sight) (t : Tree) (seen : Shows sight t) (k : ℕ) (left right : Part) → IsTold (form_seen sight.form) (Disj left right) → Telling sight t k (Disj left right)
-parts_told sight t seen k M N composed =
+parts_told : (numbers : ℕ → Bool) (sight : Sight) (t : Tree) (seen : Shows numbers sight t) (k : ℕ) (left right : Part) → IsTold (form_seen sight.form) (Disj left right) → Telling sight t k (Disj left right)
+parts_told numbers sight t seen k M N composed =
     ((λ h. disjoint_if_opposed (first_part t) (second_part t) (sym (seen.opposed_is composed) ∙ h)), (λ d. seen.opposed_is composed ∙ opposed_if_disjoint (first_part t) (second_part t) d))
-parts_told sight t seen k _ _ told = absurd told
+parts_told numbers sight t seen k _ _ told = absurd told
 
-pub disjointness_told : (sight : Sight) (t : Tree) (seen : Shows sight t) (k : ℕ) (need : Need) (left right : Part) → need ≡ Disj left right → IsTold (form_seen sight.form) need → Telling sight t k need
-disjointness_told sight t seen k need left right e told = subst (Telling sight t k) (sym e) (parts_told sight t seen k left right (subst (IsTold (form_seen sight.form)) e told))
+pub disjointness_told : (numbers : ℕ → Bool) (sight : Sight) (t : Tree) (seen : Shows numbers sight t) (k : ℕ) (need : Need) (left right : Part) → need ≡ Disj left right → IsTold (form_seen sight.form) need → Telling sight t k need
+disjointness_told numbers sight t seen k need left right e told = subst (Telling sight t k) (sym e) (parts_told numbers sight t seen k left right (subst (IsTold (form_seen sight.form)) e told))
 
 -- with what number `defers` and `rejects` are derivable of a term that is seen
-pub defers_seen : (sight : Sight) (t : Tree) (seen : Shows sight t) (k : ℕ) → nat_eq k 1 ≡ false → Derivable (of (Defers k) t) → defers_candidate (form_seen sight.form) sight.first.defers_other ≡ Some k
-defers_seen sight t seen k other d =
-    ap (λ form. defers_candidate form sight.first.defers_other) (sym seen.form_is) ∙ defers_number t sight.first k other (λ composed. seen.first_tells (ap is_composed (sym seen.form_is) ∙ composed)) d
+pub defers_seen : (numbers : ℕ → Bool) (sight : Sight) (t : Tree) (seen : Shows numbers sight t) (k : ℕ) → nat_eq k 1 ≡ false → numbers k ≡ true → Derivable (of (Defers k) t) → defers_candidate (form_seen sight.form) sight.first.defers_other ≡ Some k
+defers_seen numbers sight t seen k other w d =
+    ap (λ form. defers_candidate form sight.first.defers_other) (sym seen.form_is) ∙ defers_number numbers t sight.first k other w (λ composed. seen.first_tells (ap is_composed (sym seen.form_is) ∙ composed)) d
 
-pub rejects_seen : (sight : Sight) (t : Tree) (seen : Shows sight t) (k : ℕ) → Derivable (of (Rejects k) t) → rejects_candidate (form_seen sight.form) ≡ Some k
-rejects_seen sight t seen k d = ap rejects_candidate (sym seen.form_is) ∙ rejects_number t k d
+pub rejects_seen : (numbers : ℕ → Bool) (sight : Sight) (t : Tree) (seen : Shows numbers sight t) (k : ℕ) → Derivable (of (Rejects k) t) → rejects_candidate (form_seen sight.form) ≡ Some k
+rejects_seen numbers sight t seen k d = ap rejects_candidate (sym seen.form_is) ∙ rejects_number t k d

@@ -6,3 +6,4 @@ pub mod Marks
 pub mod Answers
 pub mod Judged
 pub mod Within
+pub mod Ranges

@@ -1,5 +1,10 @@
 -- With which numbers a property can be derivable of a term.
-use Rattle.std.specs.Prelude.{ℕ, Option, Some, None}
+use Rattle.std.specs.Prelude.{ℕ, Bool, true, Option, Some, None, IsTrue}
+use Rattle.vir_term.specs.declared.prop.Prop.{Prop}
+use Rattle.vir_term.specs.declared.prop.Prop.TheVariants.{Defers, Rejects, Elim}
+use Rattle.vir_rules.specs.declared.row.Need.{Need}
+use Rattle.vir_rules.specs.declared.row.Need.TheVariants as need
+use Rattle.vir_rules.specs.Premises.{prop_for}
 use Rattle.vir_term.specs.declared.leaf.Leaf.TheVariants.{PassFirst, DropFirst}
 use Rattle.vir_term.specs.Tree.{number_of}
 use Rattle.vir_rules.specs.Forms.{Form, leaf, seq, loop}
@@ -15,3 +20,23 @@ defers_candidate _ first = None
 abbrev pub rejects_candidate : Form → Option ℕ
 rejects_candidate (leaf (DropFirst k order)) = Some k
 rejects_candidate _ = None
+
+-- whether a property has no number, or one of these
+abbrev pub is_within : (ℕ → Bool) → Prop → Bool
+is_within numbers (Defers k) = numbers k
+is_within numbers (Rejects k) = numbers k
+is_within numbers (Elim k) = numbers k
+is_within numbers _ = true
+
+-- whether the property that a premise asks for has no number, or one of these, where the row's number is k
+abbrev pub is_need_within : (ℕ → Bool) → ℕ → Need → Bool
+is_need_within numbers k (need.Of wanted part) = is_within numbers (prop_for wanted k)
+is_need_within numbers k (need.Disj left right) = true
+
+-- The rules ask for 1 and 2 by themselves: these numbers are enough.
+abbrev pub AreEnough : (ℕ → Bool) → Type 0
+AreEnough numbers = IsTrue (numbers 1) × IsTrue (numbers 2)
+
+-- all numbers
+abbrev pub every : ℕ → Bool
+every k = true

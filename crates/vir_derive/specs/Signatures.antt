@@ -11,6 +11,7 @@ use Rattle.vir_rules.specs.Derivations.{Derivable}
 use Rattle.vir_rules.specs.Forms.{Form, leaf, form_of, first_part, second_part}
 use Rattle.vir_derive.specs.declared.signature.Signature.{Signature}
 use Rattle.vir_derive.specs.Heads.{are_opposed}
+use Rattle.vir_derive.specs.Numbers.{is_within}
 
 -- whether there is a number, and it is this one
 abbrev pub is_number : Option ℕ → ℕ → Bool
@@ -42,6 +43,10 @@ has signature prop.Neut = signature.neut
 abbrev pub Tells : Signature → Tree → Type 0
 Tells signature term = (q : Prop) → IsTrue (has signature q) ↔ Derivable (of q term)
 
+-- A signature tells of a term with some numbers: of the properties with these numbers it has just those that are derivable.
+abbrev pub TellsWithin : (ℕ → Bool) → Signature → Tree → Type 0
+TellsWithin numbers signature term = (q : Prop) → IsTrue (is_within numbers q) → IsTrue (has signature q) ↔ Derivable (of q term)
+
 -- whether a form has parts
 abbrev pub is_composed : Form → Bool
 is_composed (leaf l) = false
@@ -52,6 +57,13 @@ pub record IsSeen (form : Form) (first second : Signature) (opposed : Bool) (ter
   pub form_is : form_of term ≡ form
   pub first_tells : IsTrue (is_composed form) → Tells first (first_part term)
   pub second_tells : IsTrue (is_composed form) → Tells second (second_part term)
+  pub opposed_is : IsTrue (is_composed form) → opposed ≡ are_opposed (first_part term) (second_part term)
+
+-- The same, where of each part only the properties with these numbers are seen.
+pub record IsSeenWithin (numbers : ℕ → Bool) (form : Form) (first second : Signature) (opposed : Bool) (term : Tree) : Type 0 where
+  pub form_is : form_of term ≡ form
+  pub first_tells : IsTrue (is_composed form) → TellsWithin numbers first (first_part term)
+  pub second_tells : IsTrue (is_composed form) → TellsWithin numbers second (second_part term)
   pub opposed_is : IsTrue (is_composed form) → opposed ≡ are_opposed (first_part term) (second_part term)
 
 -- A premise on a term of this form can be told from what is seen of it: it is on the term, on a part that there is, or says that

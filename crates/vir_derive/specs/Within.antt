@@ -1,20 +1,13 @@
 -- The properties with some numbers, and terms that have the same of them.
-use Rattle.std.specs.Prelude.{◌≡◌, ◌↔◌, ℕ, Bool, true, IsTrue}
+use Rattle.std.specs.Prelude.{◌≡◌, ◌↔◌, ℕ, Bool, IsTrue}
 use Rattle.vir_term.specs.declared.prop.Prop.{Prop}
-use Rattle.vir_term.specs.declared.prop.Prop.TheVariants.{Defers, Rejects, Elim}
 use Rattle.vir_term.specs.Tree.{Tree}
 use Rattle.vir_rules.specs.Claims.{of}
 use Rattle.vir_rules.specs.Derivations.{Derivable}
 use Rattle.vir_rules.specs.Forms.{form_of, first_part, second_part}
+pub use Rattle.vir_derive.specs.Numbers.{is_within}
 use Rattle.vir_derive.specs.Heads.{are_opposed}
 use Rattle.vir_derive.specs.Signatures.{is_composed}
-
--- whether a property has no number, or one of these
-abbrev pub is_within : (ℕ → Bool) → Prop → Bool
-is_within numbers (Defers k) = numbers k
-is_within numbers (Rejects k) = numbers k
-is_within numbers (Elim k) = numbers k
-is_within numbers _ = true
 
 -- The same properties with these numbers are derivable of two terms.
 abbrev pub AreAlike : (ℕ → Bool) → Tree → Tree → Type 0

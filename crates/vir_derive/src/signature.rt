@@ -1,8 +1,9 @@
-ghost use Rattle.std.specs.Prelude.{◌≡◌};
+ghost use Rattle.std.specs.Prelude.{◌≡◌, ℕ, Bool};
 ghost use Rattle.vir_term.specs.Tree.{Tree};
 ghost use Rattle.vir_term.specs.Tree as tree;
 ghost use Rattle.vir_rules.specs.Forms.{form_seen};
-ghost use Rattle.vir_derive.specs.Signatures.{has, IsSeen, Tells};
+ghost use Rattle.vir_derive.specs.Numbers.{AreEnough};
+ghost use Rattle.vir_derive.specs.Signatures.{has, IsSeen, IsSeenWithin, Tells, TellsWithin};
 
 use crate::sight::Sight;
 use vir_rules::{Form, Prop};
@@ -11,7 +12,7 @@ use vir_term::Leaf;
 /// What is derivable of a term: of each property without a number whether it is, and of the others all
 /// numbers with which it is. `elim` is derivable with no number but 1, `defers` with 1 and at most one
 /// other, and `rejects` with at most one.
-#[derive(Clone, Copy, Debug, PartialEq, Eq)]
+#[derive(Clone, Copy, Debug, PartialEq, Eq, Hash)]
 pub struct Signature {
     pub ne: bool,
     pub ea: bool,
@@ -73,7 +74,8 @@ impl Signature {
     /// the heads of these are opposed. Where there is one part, it counts as the first and as the second
     /// one, and its head isn't opposed to itself; of a module only the form counts.
     pub fn of_parts(form: Form, first: Signature, second: Signature, opposed: bool) -> Signature
-        ensures { (term : Tree) → IsSeen (form_seen form.entry) first second opposed term → Tells result term }
+        ensures all { (term : Tree) → IsSeen (form_seen form.entry) first second opposed term → Tells result term }
+        ensures within { (numbers : ℕ → Bool) → AreEnough numbers → (term : Tree) → IsSeenWithin numbers (form_seen form.entry) first second opposed term → TellsWithin numbers result term }
     {
         let sight = Sight {
             form,

@@ -3,4 +3,4 @@ use Rattle.vir_derive.proofs.Telling.{module_seen}
 use Rattle.vir_derive.proofs.signature.Signature.of_leaf.Goals as goal
 
 pub returns : goal.returns
-returns c = c.of_parts.ensures (leaf c.args.leaf.now) (module_seen c.args.leaf.now _ _ _)
+returns c = c.of_parts.ensures.all (leaf c.args.leaf.now) (module_seen c.args.leaf.now _ _ _)
