@@ -2,7 +2,6 @@
 use Rattle.std.specs.Prelude.{◌≡◌, ℕ, zero, suc, ◌<◌, ◌≤◌, true, false}
 use Rattle.std.specs.Ordering.{nat_cmp}
 use Rattle.std.specs.FinSet as set
-use Rattle.vir_altset.specs.declared.TheConstants.{LIMIT}
 
 -- a finite set of numbers
 abbrev pub Set : Type 0
@@ -10,7 +9,7 @@ Set = set.FinSet nat_cmp
 
 -- the greatest alternative
 abbrev pub limit : ℕ
-limit = LIMIT
+limit = 1024
 
 -- the numbers 1 to m
 unfoldable pub all : ℕ → Set

@@ -1,7 +1,8 @@
+// Sets of alternatives, kept as words of bits.
 ghost use Rattle.std.specs.Prelude.{◌≡◌, ◌<◌, ◌≤◌, ◌↔◌, ◌^◌, ◌-◌, IsTrue, IfSome, MatchOption};
 ghost use Rattle.std.specs.FinSet as set;
 ghost use Rattle.vir_altset.specs.Keep.{IsKept};
-ghost use Rattle.vir_altset.specs.Sets.{all, IsBounded, IsLast, IsNext};
+ghost use Rattle.vir_altset.specs.Sets.{all, limit, IsBounded, IsLast, IsNext};
 
 use crate::LIMIT;
 use std::marker::Model;
@@ -48,7 +49,7 @@ impl AltSet {
 
     /// The numbers 1 to `m`.
     pub fn all(m: u16) -> AltSet
-        requires { m ≤ LIMIT }
+        requires { m ≤ limit }
         ensures { result ≡ all m }
     {
         let mut words = [0; WORDS];
@@ -64,7 +65,7 @@ impl AltSet {
     /// Whether `x` is a member.
     pub fn has(&self, x: u16) -> bool
         requires at_least_one { 1 ≤ x }
-        requires within_limit { x ≤ LIMIT }
+        requires within_limit { x ≤ limit }
         ensures { result ≡ set.contains self.now x }
     {
         let i = usize::from(x) - 1;
@@ -74,7 +75,7 @@ impl AltSet {
     /// The set with `x` as a member too. To fill a set in a loop, use [`AltSet::put`].
     pub fn with(&self, x: u16) -> AltSet
         requires at_least_one { 1 ≤ x }
-        requires within_limit { x ≤ LIMIT }
+        requires within_limit { x ≤ limit }
         ensures { result ≡ set.insert self.now x }
     {
         let mut larger = *self;
@@ -85,7 +86,7 @@ impl AltSet {
     /// Makes `x` a member.
     pub fn put(&mut self, x: u16)
         requires at_least_one { 1 ≤ x }
-        requires within_limit { x ≤ LIMIT }
+        requires within_limit { x ≤ limit }
         ensures { self.new ≡ set.insert self.old x }
     {
         let i = usize::from(x) - 1;
@@ -95,7 +96,7 @@ impl AltSet {
     /// The set without `x`.
     pub fn without(&self, x: u16) -> AltSet
         requires at_least_one { 1 ≤ x }
-        requires within_limit { x ≤ LIMIT }
+        requires within_limit { x ≤ limit }
         ensures { result ≡ set.remove self.now x }
     {
         let i = usize::from(x) - 1;
@@ -147,7 +148,7 @@ impl AltSet {
     /// The number of members.
     pub fn count(&self) -> u16
         ensures exact { result ≡ set.len self.now }
-        ensures within_limit { result ≤ LIMIT }
+        ensures within_limit { result ≤ limit }
     {
         let mut n = 0;
         for i in 0..WORDS {
@@ -159,9 +160,9 @@ impl AltSet {
     /// The least member above `x`, and `None` where there is none. With 0 for `x` it is the least
     /// member of all, so the members are met in ascending order, each from the one before.
     pub fn first_after(&self, x: u16) -> Option<u16>
-        requires { x ≤ LIMIT }
+        requires { x ≤ limit }
         ensures least { MatchOption result (IsLast self.now x) (λ y. IsNext self.now x y) }
-        ensures within_limit { IfSome result (λ y. y ≤ LIMIT) }
+        ensures within_limit { IfSome result (λ y. y ≤ limit) }
     {
         let words = &self.words;
         if x == LIMIT {

@@ -1,3 +1,4 @@
+// What holds of splits. Each law is the contract of a function that does nothing.
 ghost use Rattle.std.specs.Prelude.{◌≡◌, ◌+◌};
 ghost use Rattle.std.specs.FinSet as set;
 ghost use Rattle.vir_altset.specs.Sets.{Set};

@@ -1,3 +1,4 @@
+// What a step of a count makes of a set of alternatives.
 use crate::AltSet;
 
 /// What one step of a count makes of a set of alternatives: three sets which no two have a member

@@ -5,7 +5,7 @@ use Rattle.vir_altset.specs.Sets.{Set}
 use Rattle.vir_profile.specs.declared.ballot.Entry.{Entry}
 use Rattle.vir_profile.specs.Orders.{IsListing}
 use Rattle.vir_profile.specs.Profiles.{IsProfileOn}
-use Rattle.vir_mean.specs.Elections.{IsElection}
+use Rattle.vir_profile.specs.Elections.{IsElection}
 use Rattle.vir_mean.specs.Neutrality.{IsRenaming, renamed_set, renamed_line, renamed_lines}
 use Rattle.vir_mean.proofs.MemberCounts.{lists_of, listing_of}
 use Rattle.vir_mean.proofs.RenamedSets.{named, lists-renamed}

@@ -7,7 +7,7 @@ pub mod Compositions
 pub mod Endings
 pub mod Meaning
 pub mod Lifts
-pub mod Elections
+pub use Rattle.vir_profile.specs.Elections
 pub mod Neutrality
 pub mod Properties
 pub mod Disjointness

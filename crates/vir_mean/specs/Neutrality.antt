@@ -4,7 +4,7 @@ use Rattle.std.specs.FinSet as set
 use Rattle.vir_altset.specs.Sets.{Set}
 use Rattle.vir_altset.specs.declared.split.Split.{Split}
 use Rattle.vir_profile.specs.declared.ballot.Entry.{Entry}
-use Rattle.vir_mean.specs.Elections.{IsElection}
+use Rattle.vir_profile.specs.Elections.{IsElection}
 use Rattle.vir_mean.specs.Modules.{Meaning}
 
 -- f gives each member of the set a number from 1 on, and no two members the same.

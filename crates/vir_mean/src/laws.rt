@@ -8,7 +8,7 @@ ghost use Rattle.vir_term.specs.declared.leaf.Leaf.TheVariants.{PassFirst};
 ghost use Rattle.vir_term.specs.declared.prop.Prop.TheVariants.{Defers, Neut};
 ghost use Rattle.vir_term.specs.Tree.{End, Tree, leaf, loop, exactly, at_most};
 ghost use Rattle.vir_mean.specs.Modules.{all_deferred, first_passed};
-ghost use Rattle.vir_mean.specs.Elections.{IsElection};
+ghost use Rattle.vir_profile.specs.Elections.{IsElection};
 ghost use Rattle.vir_mean.specs.Neutrality.{IsRenaming, renamed_set, renamed_lines};
 ghost use Rattle.vir_mean.specs.Compositions.{turn};
 ghost use Rattle.vir_mean.specs.Meaning.{mean};

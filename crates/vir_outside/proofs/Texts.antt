@@ -1,12 +1,15 @@
 -- How the bytes written so far and what is left make up a text.
-use Rattle.std.proofs.Common.{◌≡◌, ℕ, ◌-◌, ◌≤◌, List, [], ◌++◌, length, take, drop, Option, None, Some, sym, ap, ◌∙◌, append_assoc, arith, length-drop}
+use Rattle.std.proofs.Common.{◌≡◌, ℕ, ◌+◌, ◌-◌, ◌≤◌, List, [], ◌++◌, length, take, drop, Option, None, Some, sym, ap, ◌∙◌, append_assoc, arith, length-drop}
 use Rattle.std.specs.Io.KnownBytes.{Appends}
+use Rattle.vir_outside.specs.Sink.{CallsAtMost}
 use Rattle.std.proofs.lemmas.List.{take_all, take-append-drop}
 
--- A loop has written the text but for what is left, and nothing was written of an empty one.
-pub record IsWriting (text left : List ℕ) (before now : ℕ) (old new : Option (List ℕ)) (IsSame : Type 0) : Type 0 where
+-- A loop has written the text but for what is left, by at most one call for each byte, and nothing was written of an empty one.
+pub record IsWriting (text left : List ℕ) (before now : ℕ) (old new : Option (List ℕ)) (first last : Option ℕ) (IsSame : Type 0) : Type 0 where
   pub later : before ≤ now
   pub front : (xs : List ℕ) × (text ≡ xs ++ left) × Appends old new xs
+  pub calls : CallsAtMost first last (length text - length left)
+  pub within : length left ≤ length text
   pub no_text : text ≡ [] → IsSame
 
 -- Two appends, one after the other, are one.
@@ -23,3 +26,10 @@ written_more text front left n old mid new parts first second =
     let whole : take (length left - n) (drop n left) ≡ drop n left = take_all (length left - n) (drop n left) (omega (arith, length-drop n left)) in
     let split : front ++ left ≡ (front ++ take n left) ++ drop n left = ap (λ (zs : List ℕ). front ++ zs) (sym (take-append-drop n left)) ∙ sym (append_assoc front (take n left) (drop n left)) in
     (front ++ take n left, parts ∙ split ∙ ap (λ (zs : List ℕ). (front ++ take n left) ++ zs) (sym whole), appends_more old mid new front (take n left) first second)
+
+-- One more call than so many.
+pub one_more_call : (first mid last : Option ℕ) (n more : ℕ) → CallsAtMost first mid n → CallsAtMost mid last 1 → n + 1 ≤ more → CallsAtMost first last more
+one_more_call None mid last n more before next within = tt
+one_more_call (Some a) None last n more before next within = absurd before
+one_more_call (Some a) (Some b) None n more before next within = absurd next
+one_more_call (Some a) (Some b) (Some c) n more before next within = omega arith

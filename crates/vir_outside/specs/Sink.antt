@@ -1,5 +1,5 @@
 -- What a sink is given.
-use Rattle.std.specs.Prelude.{◌≡◌, ℕ, ◌<◌, List, ◌++◌, length, Result, IfOk}
+use Rattle.std.specs.Prelude.{◌≡◌, ℕ, ◌+◌, ◌<◌, ◌≤◌, List, ◌++◌, length, None, Some, Result, IfOk, ⊤}
 use Rattle.std.specs.Io.KnownBytes.{Appends}
 use Rattle.std.specs.declared.option.Option.{Option}
 
@@ -11,3 +11,9 @@ AppendsPrefix old new text =
 -- A piece that isn't empty is taken in part at least.
 abbrev pub TakesSome : {E : Type 0} → Result ℕ E → List ℕ → Type 0
 TakesSome result piece = IfOk result (λ n. 0 < length piece → 0 < n)
+
+-- Known numbers of calls, of which the later one is at most so many higher.
+abbrev pub CallsAtMost : Option ℕ → Option ℕ → ℕ → Type 0
+CallsAtMost None new n = ⊤
+CallsAtMost (Some before) None n = ⊥
+CallsAtMost (Some before) (Some now) n = now ≤ before + n

@@ -5,7 +5,7 @@ ghost use Rattle.std.specs.Io.{WritesAtMost};
 ghost use Rattle.std.specs.Io.KnownBytes.{WriteAppends};
 ghost use Rattle.vir_outside.specs.Faults.{HasCause, one_more};
 ghost use Rattle.vir_outside.specs.Memory.{is_next_listed};
-ghost use Rattle.vir_outside.specs.Sink.{TakesSome};
+ghost use Rattle.vir_outside.specs.Sink.{CallsAtMost, TakesSome};
 
 use crate::counted::count_call;
 use crate::{Failed, Sink};
@@ -87,9 +87,12 @@ impl Sink for MemorySink {
 
     ghost written = { λ s. Some s.bytes };
 
+    ghost calls = { λ s. Some s.calls };
+
     fn write(&mut self, piece: &[u8]) -> Result<usize, Failed>
         ensures bound { WritesAtMost result piece.now }
         ensures some { TakesSome result piece.now }
+        ensures call { CallsAtMost (Some self.old.calls) (Some self.new.calls) 1 }
         ensures bytes { WriteAppends (Some self.old.bytes) (Some self.new.bytes) result piece.now }
         ensures cause { HasCause self.old.faults self.new.faults result }
 

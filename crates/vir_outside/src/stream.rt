@@ -3,7 +3,7 @@ ghost use Rattle.std.specs.Prelude.{◌≡◌, None};
 ghost use Rattle.std.specs.Io.{WritesAtMost};
 ghost use Rattle.std.specs.Io.KnownBytes.{WriteAppends};
 ghost use Rattle.vir_outside.specs.Faults.{HasCause, count_after};
-ghost use Rattle.vir_outside.specs.Sink.{TakesSome};
+ghost use Rattle.vir_outside.specs.Sink.{CallsAtMost, TakesSome};
 
 use crate::{Failed, Sink};
 use std::io::Write;
@@ -41,9 +41,12 @@ impl<W: Write> Sink for StreamSink<W> {
 
     ghost written = { λ _. None };
 
+    ghost calls = { λ _. None };
+
     fn write(&mut self, piece: &[u8]) -> Result<usize, Failed>
         ensures bound { WritesAtMost result piece.now }
         ensures some { TakesSome result piece.now }
+        ensures call { CallsAtMost None None 1 }
         ensures bytes { WriteAppends None None result piece.now }
         ensures cause { HasCause self.old.faults self.new.faults result }
 

@@ -3,6 +3,7 @@ pub mod Orders
 pub mod OrderFaults
 pub mod Profiles
 pub mod Winners
+pub mod Elections
 pub mod Add
 pub mod SocFiles
 pub use Rattle.vir_altset.specs.Sets

@@ -1,9 +1,8 @@
 -- Profiles: lists of lines, each a weight and an order. Only `IsProfile` limits their size.
-use Rattle.std.specs.Prelude.{◌≡◌, ℕ, ◌-◌, ◌^◌, ◌≤◌, Bool, List, All, None, filter, length, map, sum_by, if◌then◌else◌}
+use Rattle.std.specs.Prelude.{◌≡◌, ℕ, ◌≤◌, Bool, List, All, None, filter, length, map, sum_by, if◌then◌else◌}
 use Rattle.std.specs.FinSet as set
 use Rattle.vir_altset.specs.Sets.{Set, limit}
 use Rattle.vir_profile.specs.declared.ballot.Entry.{Entry}
-use Rattle.vir_profile.specs.declared.profile.TheConstants.{LINES_LIMIT}
 use Rattle.vir_profile.specs.OrderFaults.{order_fault}
 use Rattle.vir_profile.specs.Orders.{IsListing, puts_before, begins_with}
 
@@ -28,9 +27,13 @@ restrict d lines = map (restricted_line d) lines
 abbrev pub total_weight : List Entry → ℕ
 total_weight lines = sum_by (λ line. line.weight) lines
 
--- the greatest sum of weights
+-- the greatest number of lines
+abbrev pub lines_limit : ℕ
+lines_limit = 1000000
+
+-- the greatest sum of weights: that of a `u64`
 abbrev pub voters_limit : ℕ
-voters_limit = 2 ^ 64 - 1
+voters_limit = 18446744073709551615
 
 -- the sum of the weights of the lines whose order passes a test
 abbrev pub weight_where : (List ℕ → Bool) → List Entry → ℕ
@@ -49,5 +52,5 @@ pub record IsProfile (votes : Votes) : Type 0 where
   pub some : 1 ≤ votes.alternatives
   pub few : votes.alternatives ≤ limit
   pub orders : All (λ line. order_fault votes.alternatives line.order ≡ None) votes.lines
-  pub lines : length votes.lines ≤ LINES_LIMIT
+  pub lines : length votes.lines ≤ lines_limit
   pub weights : total_weight votes.lines ≤ voters_limit

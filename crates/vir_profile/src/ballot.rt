@@ -1,4 +1,5 @@
-ghost use Rattle.std.specs.Prelude.{◌≡◌, ◌≤◌, ◌<◌, [], ◌∷◌, ◌++◌, length, slice_index, IfOk, IsOk, OnOk, OnErr};
+// Ballots, and the lines of a profile.
+ghost use Rattle.std.specs.Prelude.{◌≡◌, ◌≤◌, ◌<◌, ◌↔◌, [], ◌∷◌, ◌++◌, length, slice_index, IfOk, IsOk, IsTrue, OnOk, OnErr};
 
 use crate::few::{ALTERNATIVES_IN_PLACE, Few};
 use std::alloc::{AllocError, Global};
@@ -99,6 +100,13 @@ impl Ballot {
         ensures { result ≡ length self.now }
     {
         self.alternatives().len()
+    }
+
+    /// Whether it lists none.
+    pub fn is_empty(&self) -> bool
+        ensures { IsTrue result ↔ (self.now ≡ []) }
+    {
+        self.alternatives().is_empty()
     }
 
     /// The alternative at a place, the most preferred one at 0.

@@ -1,3 +1,4 @@
+// The alternatives of a short order, which stand in the ballot itself.
 ghost use Rattle.std.specs.Prelude.{◌≡◌, ◌≤◌, ◌<◌, ◌↔◌, [], ◌∷◌, ◌++◌, length, IfSome, IsSome, IsTrue};
 ghost use Rattle.std.specs.Bool.{MatchBool};
 

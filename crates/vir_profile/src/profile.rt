@@ -1,5 +1,7 @@
+// Profiles, and which lines they take.
 ghost use Rattle.std.specs.Prelude.{◌≡◌, None, ◌≤◌, ◌<◌, [], ◌∷◌, ◌++◌, length, slice_get, IfErr, OnOk, OnErr, unwrap_or};
 ghost use Rattle.std.specs.Option.{option_copied};
+ghost use Rattle.vir_altset.specs.Sets.{limit};
 ghost use Rattle.vir_profile.specs.Profiles.{total_weight, IsProfile};
 ghost use Rattle.vir_profile.specs.Add.{add_fault};
 ghost use Rattle.vir_profile.specs.OrderFaults.{order_fault};
@@ -8,7 +10,7 @@ use crate::ballot::{Ballot, Entry};
 use crate::refused::{AddFault, Refused};
 use std::alloc::Global;
 use std::marker::Model;
-use vir_altset::{AltSet, LIMIT};
+use vir_altset::AltSet;
 
 /// How many lines a profile may have.
 pub const LINES_LIMIT: usize = 1_000_000;
@@ -35,7 +37,7 @@ impl Model for Profile {
 
 // The first fault of an order of so many alternatives.
 fn judge_order(order: &Ballot, alternatives: u16) -> Option<AddFault>
-    requires { alternatives ≤ LIMIT }
+    requires { alternatives ≤ limit }
     ensures { result ≡ order_fault alternatives order.now }
 {
     let mut seen = AltSet::empty();
@@ -60,7 +62,7 @@ impl Profile {
     /// The profile of so many alternatives without a line.
     pub fn new(alloc: Global, alternatives: u16) -> Profile
         requires some { 1 ≤ alternatives }
-        requires few { alternatives ≤ LIMIT }
+        requires few { alternatives ≤ limit }
         ensures { result ≡ record { alternatives = alternatives; lines = [] } }
     {
         Profile {

@@ -1,3 +1,4 @@
+// Lines that a profile refuses, and why.
 use crate::ballot::Entry;
 
 /// Why a line isn't added to a profile. Of several faults the first in this order is named.

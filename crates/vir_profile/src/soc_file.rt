@@ -1,3 +1,4 @@
+// A profile with names of its alternatives.
 ghost use Rattle.std.specs.Prelude.{◌≡◌};
 ghost use Rattle.std.specs.Option.{option_copied};
 ghost use Rattle.vir_profile.specs.SocFiles.{AreNames, name_of};

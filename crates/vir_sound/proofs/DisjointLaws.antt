@@ -7,7 +7,7 @@ use Rattle.vir_altset.specs.declared.split.Split.{Split}
 use Rattle.vir_altset.proofs.SplitLaws.{deferred_part}
 use Rattle.vir_profile.specs.declared.ballot.Entry.{Entry}
 use Rattle.vir_profile.specs.Profiles.{restrict}
-use Rattle.vir_mean.specs.Elections.{IsElection}
+use Rattle.vir_profile.specs.Elections.{IsElection}
 use Rattle.vir_mean.specs.FixedOrders.{is_among_first}
 use Rattle.vir_mean.specs.Modules.{Meaning, first_passed, first_dropped}
 use Rattle.vir_mean.specs.Compositions.{joined, rev_of, seq_of}

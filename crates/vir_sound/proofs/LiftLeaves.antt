@@ -9,7 +9,7 @@ use Rattle.vir_altset.specs.SetLaws.{contains-empty, contains-difference, contai
 use Rattle.vir_altset.specs.Splits.{bit}
 use Rattle.vir_altset.specs.declared.split.Split.{Split}
 use Rattle.vir_profile.specs.declared.ballot.Entry.{Entry}
-use Rattle.vir_mean.specs.Elections.{IsElection}
+use Rattle.vir_profile.specs.Elections.{IsElection}
 use Rattle.vir_term.specs.declared.score.Score.{Score}
 use Rattle.vir_term.specs.declared.score.Score.TheVariants.{Plurality, Borda, Copeland, Minimax, Condorcet}
 use Rattle.vir_term.specs.declared.leaf.Leaf.{Leaf}

@@ -6,7 +6,7 @@ use Rattle.vir_altset.specs.declared.split.Split.{Split}
 use Rattle.vir_altset.proofs.SplitLaws.{deferred_part}
 use Rattle.vir_profile.specs.declared.ballot.Entry.{Entry}
 use Rattle.vir_profile.specs.Profiles.{restrict}
-use Rattle.vir_mean.specs.Elections.{IsElection}
+use Rattle.vir_profile.specs.Elections.{IsElection}
 use Rattle.vir_term.specs.declared.prop.Prop.TheVariants.{Dli}
 use Rattle.vir_mean.specs.Lifts.{Lifts}
 use Rattle.vir_mean.specs.Modules.{Meaning}

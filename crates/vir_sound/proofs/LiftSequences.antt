@@ -8,7 +8,7 @@ use Rattle.vir_altset.proofs.SizeLaws.{len_of_member}
 use Rattle.vir_altset.proofs.SplitLaws.{elected_part, deferred_part, join_split}
 use Rattle.vir_profile.specs.declared.ballot.Entry.{Entry}
 use Rattle.vir_profile.specs.Profiles.{restrict}
-use Rattle.vir_mean.specs.Elections.{IsElection}
+use Rattle.vir_profile.specs.Elections.{IsElection}
 use Rattle.vir_term.specs.declared.prop.Prop.TheVariants.{Ne, Ea, El, Defers, Dli, Dimono, Dmono, Mono}
 use Rattle.vir_mean.specs.Modules.{Meaning}
 use Rattle.vir_mean.specs.Compositions.{joined, seq_of}

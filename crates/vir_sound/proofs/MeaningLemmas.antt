@@ -11,7 +11,7 @@ use Rattle.vir_altset.proofs.SizeLaws.{len_of_empty, empty_of_len, HasMember, me
 use Rattle.vir_altset.proofs.SplitLaws.{len-split, deferred_part}
 use Rattle.vir_profile.specs.declared.ballot.Entry.{Entry}
 use Rattle.vir_profile.specs.Profiles.{restrict}
-use Rattle.vir_mean.specs.Elections.{IsElection}
+use Rattle.vir_profile.specs.Elections.{IsElection}
 use Rattle.vir_profile.proofs.RestrictionLaws.{restricted_orders as restricted_lists}
 use Rattle.vir_mean.specs.Eliminators.{eliminated}
 use Rattle.vir_mean.specs.Modules.{Meaning, all_deferred}

@@ -15,7 +15,7 @@ use Rattle.vir_term.specs.declared.prop.Prop.TheVariants.{Neut}
 use Rattle.vir_term.specs.Kinds.{kind_of}
 use Rattle.vir_term.specs.Tree.{End, number_of}
 use Rattle.vir_mean.specs.declared.elimination.Elimination.TheVariants.{Max, Min, Below, Upto}
-use Rattle.vir_mean.specs.Elections.{IsElection}
+use Rattle.vir_profile.specs.Elections.{IsElection}
 use Rattle.vir_mean.specs.Modules.{Meaning, leaf_mean}
 use Rattle.vir_mean.specs.Compositions.{IsEnd, joined, merged, rev_of, seq_of, par_of, loop_of}
 use Rattle.vir_mean.specs.Neutrality.{IsRenaming, renamed_set, renamed_lines, renamed_split}

@@ -8,7 +8,7 @@ use Rattle.vir_altset.specs.Splits.{IsSplitOf}
 use Rattle.vir_altset.specs.declared.split.Split.{Split}
 use Rattle.vir_altset.proofs.SizeLaws.{empty_of_len, len-make_up}
 use Rattle.vir_profile.specs.declared.ballot.Entry.{Entry}
-use Rattle.vir_mean.specs.Elections.{IsElection}
+use Rattle.vir_profile.specs.Elections.{IsElection}
 use Rattle.vir_term.specs.declared.prop.Prop.TheVariants.{Ne, Defers, Rejects, Elim, Nb, Decr}
 use Rattle.vir_mean.specs.Modules.{Meaning, first_passed, first_dropped}
 use Rattle.vir_term.specs.Tree.{exactly, at_most}

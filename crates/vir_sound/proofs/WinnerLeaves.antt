@@ -5,7 +5,7 @@ use Rattle.std.specs.FinSet as set
 use Rattle.vir_altset.specs.Sets.{Set}
 use Rattle.vir_altset.specs.SetLaws.{contains-empty}
 use Rattle.vir_profile.specs.declared.ballot.Entry.{Entry}
-use Rattle.vir_mean.specs.Elections.{IsElection}
+use Rattle.vir_profile.specs.Elections.{IsElection}
 use Rattle.vir_profile.specs.Winners.{IsCondorcetWinner}
 use Rattle.vir_term.specs.declared.leaf.Leaf.{Leaf}
 use Rattle.vir_term.specs.declared.leaf.Leaf.TheVariants as leaf

@@ -7,7 +7,7 @@ use Rattle.vir_altset.specs.declared.split.Split.{Split}
 use Rattle.vir_altset.proofs.SplitLaws.{deferred_part, split_of_empty, join_split}
 use Rattle.vir_profile.specs.declared.ballot.Entry.{Entry}
 use Rattle.vir_profile.specs.Profiles.{restrict}
-use Rattle.vir_mean.specs.Elections.{IsElection}
+use Rattle.vir_profile.specs.Elections.{IsElection}
 use Rattle.vir_profile.specs.Winners.{IsCondorcetWinner}
 use Rattle.vir_profile.proofs.WinnerLaws.{condorcet_winner_stays}
 use Rattle.vir_term.specs.declared.prop.Prop.TheVariants.{Ne, El, Nb, Cc, Dcc, Cprog, Ccomp}

@@ -2,21 +2,20 @@
 use Rattle.std.specs.Prelude.{ℕ, ◌≤◌, ◌≡◌, List, None, ⊤}
 use Rattle.vir_term.specs.declared.leaf.Leaf.{Leaf}
 use Rattle.vir_term.specs.declared.leaf.Leaf.TheVariants.{PassFirst, DropFirst}
-use Rattle.vir_term.specs.declared.limits.TheConstants.{COUNT_LIMIT, NESTING_LIMIT, SIZE_LIMIT}
 use Rattle.vir_term.specs.Orders.{order_fault}
 use Rattle.vir_term.specs.Tree.{Tree, leaf, rev, seq, par, loop, number_of, size, nesting}
 
 -- the greatest size
 abbrev pub size_limit : ℕ
-size_limit = SIZE_LIMIT
+size_limit = 200
 
 -- the greatest nesting
 abbrev pub nesting_limit : ℕ
-nesting_limit = NESTING_LIMIT
+nesting_limit = 64
 
 -- the greatest number of alternatives that a module or a loop may name
 abbrev pub count_limit : ℕ
-count_limit = COUNT_LIMIT
+count_limit = 1000000
 
 -- a number of alternatives that a module or a loop may name
 pub record IsCount (k : ℕ) : Type 0 where

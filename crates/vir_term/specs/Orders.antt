@@ -3,11 +3,10 @@ use Rattle.std.specs.Prelude.{ℕ, ◌&&◌, List, [], ◌∷◌, ◌++◌, Opti
 use Rattle.std.specs.List.{list_any}
 use Rattle.vir_term.specs.declared.fixed_order.OrderFault.{OrderFault}
 use Rattle.vir_term.specs.declared.fixed_order.OrderFault.TheVariants.{OutOfRange, Repeated}
-use Rattle.vir_term.specs.declared.fixed_order.TheConstants.{MEMBER_LIMIT}
 
 -- the greatest number that a fixed order may name
 abbrev pub member_limit : ℕ
-member_limit = MEMBER_LIMIT
+member_limit = 1024
 
 -- the fault of these members, where those stand before them
 abbrev pub order_fault_after : List ℕ → List ℕ → Option OrderFault

@@ -1,4 +1,5 @@
-ghost use Rattle.std.specs.Prelude.{◌≡◌, ◌<◌, ◌↔◌, IsTrue, IfOk, None, Some, length, slice_index, MatchResult};
+// Orders that do not depend on the ballots.
+ghost use Rattle.std.specs.Prelude.{◌≡◌, ◌<◌, ◌↔◌, IsTrue, IfOk, None, Some, [], length, slice_index, MatchResult};
 ghost use Rattle.vir_term.specs.Orders.{order_fault};
 
 use std::alloc::{AllocError, Global};
@@ -57,6 +58,13 @@ impl FixedOrder {
         ensures faultless { order_fault self.now ≡ None }
     {
         self.listed.len()
+    }
+
+    /// Whether none is listed, as in the order of the numbers.
+    pub fn is_empty(&self) -> bool
+        ensures { IsTrue result ↔ (self.now ≡ []) }
+    {
+        self.listed.is_empty()
     }
 
     /// The alternative at a place of the list, the first one at 0.

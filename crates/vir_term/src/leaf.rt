@@ -1,3 +1,4 @@
+// The modules that terms are built of.
 ghost use Rattle.std.specs.Prelude.{◌≡◌, ◌↔◌, IsTrue, IfOk};
 ghost use Rattle.vir_term.specs.Kinds.{kind_of};
 ghost use Rattle.vir_term.specs.Limits.{IsLeafInRange};

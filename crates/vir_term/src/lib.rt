@@ -5,14 +5,15 @@
 //! built, how large it is, and how it is written; what it elects is the business of `vir_mean`. Its
 //! one contract: a `Term` is seen as a pure tree (`specs/Tree.antt`), of which `size`, `equals` and
 //! `copy` speak exactly; `within_limits` tells of any term whether it is within the limits
-//! (`specs/Limits.antt`); and `print` gives its text (`specs/Text.antt`). A `FixedOrder` is its list of
-//! alternatives, without repeats. A `Prop` names a property of rules, which `vir_mean` defines. It stands
-//! on std, and on `itoa` for numbers.
+//! (`specs/Limits.antt`); and `print` and `push_term` give its text (`specs/Text.antt`). A `FixedOrder` is its
+//! list of alternatives, without repeats. A `Prop` names a property of rules, which `vir_mean` defines;
+//! `Prop::all` lists them in their order. It stands on std, and on `itoa` for numbers.
 #![tactic(auto)]
 
 mod fixed_order;
 mod leaf;
 mod limits;
+mod number;
 mod prop;
 mod score;
 mod term;
@@ -23,6 +24,8 @@ mod text;
 pub use fixed_order::{FixedOrder, MEMBER_LIMIT, OrderFault};
 pub use leaf::{Leaf, LeafKind};
 pub use limits::{COUNT_LIMIT, NESTING_LIMIT, SIZE_LIMIT, is_count};
+pub use number::push_number;
 pub use prop::Prop;
 pub use score::Score;
 pub use term::Term;
+pub use text::{push_leaf, push_term};

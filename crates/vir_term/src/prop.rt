@@ -1,3 +1,7 @@
+// The properties of rules, as names.
+ghost use Rattle.std.specs.Prelude.{◌≡◌};
+ghost use Rattle.vir_term.specs.Props.{all_props};
+
 /// A property of a voting rule: what its splits are like on every finite set of alternatives and every
 /// profile on it. What each one says is defined where rules have a meaning, in
 /// `vir_mean/specs/Properties.antt`. A number is one that a module may name too: from 1 to
@@ -41,4 +45,34 @@ pub enum Prop {
     Ccomp,
     /// Neutrality: the result on renamed alternatives is the renamed result.
     Neut,
+}
+
+static ALL: [Prop; 18] = [
+    Prop::Ne,
+    Prop::Ea,
+    Prop::El,
+    Prop::Defers(1),
+    Prop::Rejects(1),
+    Prop::Elim(1),
+    Prop::Nb,
+    Prop::Decr,
+    Prop::Dli,
+    Prop::Imono,
+    Prop::Dimono,
+    Prop::Dmono,
+    Prop::Mono,
+    Prop::Cc,
+    Prop::Dcc,
+    Prop::Cprog,
+    Prop::Ccomp,
+    Prop::Neut,
+];
+
+impl Prop {
+    /// All properties in their order, those of a number at the number 1.
+    pub fn all() -> &'static [Prop]
+        ensures { result.now ≡ all_props }
+    {
+        &ALL
+    }
 }

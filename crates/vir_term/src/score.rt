@@ -1,3 +1,4 @@
+// What eliminators measure by.
 ghost use Rattle.std.specs.Prelude.{◌≡◌, ◌↔◌, IsTrue};
 ghost use Rattle.vir_term.specs.Text.{score_text};
 

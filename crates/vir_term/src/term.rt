@@ -1,3 +1,4 @@
+// Terms, and what is asked of them.
 ghost use Rattle.std.specs.Prelude.{◌≡◌, ◌+◌, ◌≤◌, ◌↔◌, IsTrue, IsSome, IfSome, IfOk};
 ghost use Rattle.vir_term.specs.Tree.{tree, size, nesting};
 ghost use Rattle.vir_term.specs.Limits.{size_limit, IsInRange, IsWithinLimits};

@@ -1,5 +1,5 @@
 // Terms at the limits and one past them, fixed orders, and printed terms.
-use crate::{FixedOrder, Leaf, LeafKind, OrderFault, Score, Term};
+use crate::{FixedOrder, Leaf, LeafKind, OrderFault, Prop, Score, Term, push_leaf, push_number, push_term};
 use std::alloc::{AllocError, Global};
 use std::process::Abort;
 
@@ -92,7 +92,7 @@ fn orders_are_judged_from_the_front(rt: HostRuntime) -> Result<(), AllocError> {
         match order_of(rt.alloc(), list)? {
             Ok(order) => {
                 assert!(rt; fault.is_none() && order.len() == list.len());
-                assert!(rt; order.len() == 0 || order.at(0) == list[0]);
+                assert!(rt; order.is_empty() || order.at(0) == list[0]);
             }
             Err(found) => assert!(rt; *fault == Some(found)),
         }

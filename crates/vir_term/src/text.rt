@@ -5,30 +5,23 @@ ghost use Rattle.vir_term.specs.Text.{order_text, score_text, leaf_text, term_te
 
 use crate::fixed_order::FixedOrder;
 use crate::leaf::Leaf;
+use crate::number::push_number;
 use crate::score::Score;
 use crate::term::Term;
-use itoa::Buffer;
 use std::alloc::AllocError;
-
-fn push_number(text: &mut Vec<u8>, n: u32) -> Result<(), AllocError>
-    ensures { OnOk result (text.new.items ≡ text.old.items ++ decimal n) }
-{
-    let mut buffer = Buffer::new();
-    text.extend_from_slice(buffer.format(n).as_bytes())
-}
 
 // The order as a second argument; the empty one is left out.
 fn push_order(text: &mut Vec<u8>, order: &FixedOrder) -> Result<(), AllocError>
     ensures { OnOk result (text.new.items ≡ text.old.items ++ order_text order.now) }
 {
-    if order.len() == 0 {
+    if order.is_empty() {
         return Ok(());
     }
     text.extend_from_slice(b",[")?;
-    push_number(text, u32::from(order.at(0)))?;
+    push_number(text, u64::from(order.at(0)))?;
     for i in 1..order.len() {
         text.extend_from_slice(b",")?;
-        push_number(text, u32::from(order.at(i)))?;
+        push_number(text, u64::from(order.at(i)))?;
     }
     text.extend_from_slice(b"]")
 }
@@ -43,7 +36,7 @@ fn push_module(
     ensures { OnOk result (text.new.items ≡ text.old.items ++ (name.now ++ decimal k ++ order_text order.now ++ codes ")")) }
 {
     text.extend_from_slice(name)?;
-    push_number(text, k)?;
+    push_number(text, u64::from(k))?;
     push_order(text, order)?;
     text.extend_from_slice(b")")
 }
@@ -57,7 +50,8 @@ fn push_eliminator(text: &mut Vec<u8>, name: &[u8], score: Score) -> Result<(), 
     text.extend_from_slice(b")")
 }
 
-/// Appends a module.
+/// Appends the module's text in the rule language. After want of memory the text may have grown by a part
+/// of it.
 pub fn push_leaf(text: &mut Vec<u8>, leaf: &Leaf) -> Result<(), AllocError>
     ensures { OnOk result (text.new.items ≡ text.old.items ++ leaf_text leaf.now) }
 {
@@ -74,7 +68,8 @@ pub fn push_leaf(text: &mut Vec<u8>, leaf: &Leaf) -> Result<(), AllocError>
     }
 }
 
-/// Appends a term.
+/// Appends the term's text in the rule language, without spaces. After want of memory the text may have
+/// grown by a part of it.
 pub fn push_term(text: &mut Vec<u8>, term: &Term) -> Result<(), AllocError>
     ensures { OnOk result (text.new.items ≡ text.old.items ++ term_text (tree term.now)) }
 {
@@ -101,14 +96,14 @@ pub fn push_term(text: &mut Vec<u8>, term: &Term) -> Result<(), AllocError>
         }
         Term::Loop { k, body } => {
             text.extend_from_slice(b"loop(")?;
-            push_number(text, *k)?;
+            push_number(text, u64::from(*k))?;
             text.extend_from_slice(b",")?;
             push_term(text, body)?;
             text.extend_from_slice(b")")
         }
         Term::Until { k, body } => {
             text.extend_from_slice(b"until(")?;
-            push_number(text, *k)?;
+            push_number(text, u64::from(*k))?;
             text.extend_from_slice(b",")?;
             push_term(text, body)?;
             text.extend_from_slice(b")")
