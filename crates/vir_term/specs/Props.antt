@@ -2,7 +2,24 @@
 use Rattle.std.specs.Prelude.{List, [], ◌∷◌}
 use Rattle.vir_term.specs.declared.prop.Prop.{Prop}
 use Rattle.vir_term.specs.declared.prop.Prop.TheVariants.{
-  Ne, Ea, El, Defers, Rejects, Elim, Nb, Decr, Dli, Imono, Dimono, Dmono, Mono, Cc, Dcc, Cprog, Ccomp, Neut
+  Ne,
+  Ea,
+  El,
+  Defers,
+  Rejects,
+  Elim,
+  Nb,
+  Decr,
+  Dli,
+  Imono,
+  Dimono,
+  Dmono,
+  Mono,
+  Cc,
+  Dcc,
+  Cprog,
+  Ccomp,
+  Neut,
 }
 
 -- all of them in their order, those of a number at the number 1

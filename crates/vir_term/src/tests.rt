@@ -1,5 +1,7 @@
 // Terms at the limits and one past them, fixed orders, and printed terms.
-use crate::{FixedOrder, Leaf, LeafKind, OrderFault, Prop, Score, Term, push_leaf, push_number, push_term};
+use crate::{
+    FixedOrder, Leaf, LeafKind, OrderFault, Prop, Score, Term, push_leaf, push_number, push_term,
+};
 use std::alloc::{AllocError, Global};
 use std::process::Abort;
 
@@ -61,6 +63,21 @@ fn the_limits_are_met_and_not_passed(rt: HostRuntime) -> Result<(), AllocError> 
     Ok(())
 }
 
+// Revisions of a term of size 197, and whether that is within the limits: a size of 200 is.
+const REVISIONS: &[(usize, bool)] = &[(0, true), (2, true), (3, true), (4, false)];
+
+#[test]
+fn a_term_may_have_200_parts(rt: HostRuntime) -> Result<(), AllocError> {
+    for (times, fits) in REVISIONS {
+        let mut term = nested(rt.alloc(), 50, true)?;
+        for _ in 0..*times {
+            term = Term::Rev(Box::new(rt.alloc(), term)?);
+        }
+        assert!(rt; term.within_limits() == *fits, "{times} more");
+    }
+    Ok(())
+}
+
 // The number of a module, and whether a term may have it.
 const COUNTS: &[(u32, bool)] = &[(0, false), (1, true), (1_000_000, true), (1_000_001, false)];
 
@@ -72,8 +89,44 @@ fn numbers_are_limited(rt: HostRuntime) -> Result<(), AllocError> {
         assert!(rt; Term::Leaf(passed).within_limits() == *fits);
         let body = boxed(rt.alloc(), Leaf::Defer)?;
         assert!(rt; Term::Loop { k: *k, body }.within_limits() == *fits);
+        let body = boxed(rt.alloc(), Leaf::Defer)?;
+        assert!(rt; Term::Until { k: *k, body }.within_limits() == *fits);
     }
     Ok(())
+}
+
+// Numbers and their digits.
+const DIGITS: &[(u64, &[u8])] = &[
+    (0, b"k = 0"),
+    (1_024, b"k = 1024"),
+    (18_446_744_073_709_551_615, b"k = 18446744073709551615"),
+];
+
+#[test]
+fn texts_are_appended(rt: HostRuntime) -> Result<(), AllocError> {
+    for (number, digits) in DIGITS {
+        let mut text = Vec::from_slice(rt.alloc(), b"k = ")?;
+        push_number(&mut text, *number)?;
+        assert!(rt; text.as_slice() == *digits);
+    }
+    let leaf = pass(rt.alloc(), 3, &[2])?;
+    let mut text = Vec::from_slice(rt.alloc(), b"a = ")?;
+    push_leaf(&mut text, &leaf)?;
+    assert!(rt; text.as_slice() == b"a = pass(3,[2])".as_slice());
+    push_term(
+        &mut text,
+        &Term::Rev(Box::new(rt.alloc(), Term::Leaf(leaf))?),
+    )?;
+    assert!(rt; text.as_slice() == b"a = pass(3,[2])rev(pass(3,[2]))".as_slice());
+    Ok(())
+}
+
+#[test]
+fn properties_are_listed(rt: HostRuntime) {
+    let props = Prop::all();
+    assert!(rt; props.len() == 18);
+    assert!(rt; props.first() == Some(&Prop::Ne) && props.last() == Some(&Prop::Neut));
+    assert!(rt; props.contains(&Prop::Elim(1)));
 }
 
 // A list, and its first fault as a fixed order.
@@ -124,6 +177,9 @@ fn compositions_are_written_without_spaces(rt: HostRuntime) -> Result<(), AllocE
     let body = Box::new(alloc, Term::Rev(boxed(alloc, Leaf::Plurality)?))?;
     let term = Term::Loop { k: 1, body };
     expect_text(&rt, alloc, &term, 3, "loop(1,rev(plurality))")?;
+    let body = Box::new(alloc, Term::Leaf(Leaf::Min(Score::Plurality)))?;
+    let term = Term::Until { k: 2, body };
+    expect_text(&rt, alloc, &term, 2, "until(2,min(plurality))")?;
     let other = part(alloc, true)?;
     expect_text(&rt, alloc, &other, 3, "seq(plurality,elect)")?;
     assert!(rt; !other.equals(&term));
