@@ -1,5 +1,6 @@
 -- The words of the numbers 1 to m.
-use Rattle.std.proofs.Common.{◌≡◌, ℕ, ◌-◌, ◌*◌, ◌/◌, ◌%◌, ◌^◌, ◌<◌, ◌≤◌, Bool, true, false, ◌&&◌, List, get_or, min, nat_eq, nat_lt, nat_le, refl, sym, ap, ◌∙◌, arith}
+use Rattle.std.proofs.Common.{◌≡◌, ℕ, ◌-◌, ◌*◌, ◌/◌, ◌%◌, ◌^◌, ◌<◌, ◌≤◌, Bool, true, false, ◌&&◌, List, get_or, min}
+use Rattle.std.proofs.Common.{nat_eq, nat_lt, nat_le, refl, sym, ap, ◌∙◌, arith}
 use Rattle.std.proofs.lemmas.Nat.Bits.{bit_at_ones, bit_at_ones_above}
 use Rattle.std.proofs.lemmas.Bool.Decides.{nat_tests}
 use Rattle.vir_altset.specs.SetLaws.{contains-all}
@@ -19,10 +20,12 @@ is_set-ones n i = elim (nat_lt i n) as (λ t. nat_lt i n ≡ t → is_set (2 ^ n
 
 -- x is at most m just where its bit is one of the lowest that word k has of 1 to m
 bit_within : (m x : ℕ) → 0 < x → nat_lt ((x - 1) % 64) (min (m - 64 * ((x - 1) / 64)) 64) ≡ (nat_lt 0 x && nat_le x m)
-bit_within m x low = elim (nat_le x m) as (λ t. nat_le x m ≡ t → nat_lt ((x - 1) % 64) (min (m - 64 * ((x - 1) / 64)) 64) ≡ (nat_lt 0 x && t)) [
-  | true ↦ λ e. let upto : x ≤ m = grind (arith, nat_tests) in is_lt _ _ (omega arith) ∙ sym (positive x low)
-  | false ↦ λ e. let above : m < x = grind (arith, nat_tests) in not_lt _ _ (omega arith) ∙ sym (nothing (nat_lt 0 x))
-] refl
+bit_within m x low = elim (nat_le x m) as (λ t. nat_le x m ≡ t → nat_lt ((x - 1) % 64)
+    (min (m - 64 * ((x - 1) / 64)) 64) ≡ (nat_lt 0 x && t)) [
+      | true ↦ λ e. let upto : x ≤ m = grind (arith, nat_tests) in is_lt _ _ (omega arith) ∙ sym (positive x low)
+      | false ↦ λ e. let above : m < x = grind (arith, nat_tests) in not_lt _ _ (omega arith)
+          ∙ sym (nothing (nat_lt 0 x))
+    ] refl
   where
     positive : (x : ℕ) → 0 < x → (nat_lt 0 x && true) ≡ true
     positive x low = grind (arith, nat_tests)
@@ -39,7 +42,8 @@ bit_within m x low = elim (nat_le x m) as (λ t. nat_le x m ≡ t → nat_lt ((x
 pub set_of-filled : (n : ℕ) (words : List ℕ) (m : ℕ) → AreFilled words m n → m ≤ 64 * n → set_of n words ≡ all m
 set_of-filled n words m filled upto = is_passing (64 * n) (has_bit words) (all m)
     (λ x low high.
-    contains-all m x ∙ sym (ap (λ w. is_set w ((x - 1) % 64)) (filled ((x - 1) / 64) (omega arith)) ∙ is_set-ones (min (m - 64 * ((x - 1) / 64)) 64) ((x - 1) % 64) ∙ bit_within m x low))
+    contains-all m x ∙ sym (ap (λ w. is_set w ((x - 1) % 64)) (filled ((x - 1) / 64) (omega arith))
+    ∙ is_set-ones (min (m - 64 * ((x - 1) / 64)) 64) ((x - 1) % 64) ∙ bit_within m x low))
     (contains-all m 0)
     (λ x above. contains-all m x ∙ past x above)
   where

@@ -6,7 +6,8 @@ use Rattle.vir_altset.specs.SetLaws.{contains-retain, same_members}
 use Rattle.vir_altset.specs.Sets.{Set}
 
 -- what is kept by a test that can only tell p is the members that p is true of
-pub kept_is : (a kept : Set) (Told : ℕ → Bool → Type 0) (p : ℕ → Bool) → IsKept a kept Told → ((x : ℕ) (b : Bool) → Told x b → b ≡ p x) → kept ≡ set.retain a p
+pub kept_is : (a kept : Set) (Told : ℕ → Bool → Type 0) (p : ℕ → Bool) → IsKept a kept Told
+    → ((x : ℕ) (b : Bool) → Told x b → b ≡ p x) → kept ≡ set.retain a p
 kept_is a kept Told p is_kept is = same_members kept (set.retain a p) (λ x. each x ∙ sym (contains-retain a p x))
   where
     each : (x : ℕ) → set.contains kept x ≡ (set.contains a x && p x)

@@ -11,4 +11,5 @@ bit false = 0
 
 -- each member of a is in just one of the three sets, and these have no other members
 pub record IsSplitOf (a : Set) (s : Split) : Type 0 where
-  pub parts : (x : ℕ) → bit (set.contains s.elected x) + bit (set.contains s.rejected x) + bit (set.contains s.deferred x) ≡ bit (set.contains a x)
+  pub parts : (x : ℕ) → bit (set.contains s.elected x) + bit (set.contains s.rejected x)
+      + bit (set.contains s.deferred x) ≡ bit (set.contains a x)

@@ -1,5 +1,6 @@
 -- How the bytes read so far and what is left make up what there was.
-use Rattle.std.proofs.Common.{◌≡◌, ℕ, ◌+◌, ◌-◌, ◌≤◌, Bool, List, ◌++◌, length, take, Option, None, Some, IsTrue, sym, ap, ◌∙◌, append_assoc, arith, length-append, length-take}
+use Rattle.std.proofs.Common.{◌≡◌, ℕ, ◌+◌, ◌-◌, ◌≤◌, Bool, List, ◌++◌, length, take, Option, None, Some, IsTrue, sym}
+use Rattle.std.proofs.Common.{ap, ◌∙◌, append_assoc, arith, length-append, length-take}
 use Rattle.std.specs.Io.KnownBytes.{Consumes}
 use Rattle.vir_outside.specs.Shelf.{Files}
 

@@ -1,5 +1,6 @@
 -- What each member of an order does to its first fault.
-use Rattle.std.proofs.Common.{◌≡◌, ℕ, suc, ◌+◌, ◌<◌, ◌≤◌, true, false, ◌&&◌, List, ◌∷◌, length, get_or, take, drop, Some, None, nat_le, nat_lt, refl, sym, ap, ◌∙◌, arith, add-one}
+use Rattle.std.proofs.Common.{◌≡◌, ℕ, suc, ◌+◌, ◌<◌, ◌≤◌, true, false, ◌&&◌, List, ◌∷◌, length, get_or, take, drop}
+use Rattle.std.proofs.Common.{Some, None, nat_le, nat_lt, refl, sym, ap, ◌∙◌, arith, add-one}
 use Rattle.std.proofs.Math.Seq.{drop-cons}
 use Rattle.std.proofs.lemmas.List.{take_more}
 use Rattle.std.proofs.lemmas.Bool.Decides.{nat_tests}
@@ -27,7 +28,8 @@ module _ (m : ℕ) (xs : List ℕ) (i x : ℕ) (h : i < length xs) (is : x ≡ g
   split = rw add-one (drop-cons xs i 0 h ∙ ap (λ y. y ∷ drop (suc i) xs) (sym is))
 
   pub seen_more : set.insert (set.from_list {R = nat_cmp} (take i xs)) x ≡ set.from_list {R = nat_cmp} (take (i + 1) xs)
-  seen_more = rw (take_more xs i 0 h, ← is) (sym (set.from_list_push nat_cmp_total nat_cmp-IsAntisymmetric (take i xs) x))
+  seen_more = rw (take_more xs i 0 h, ← is) (sym (set.from_list_push nat_cmp_total nat_cmp-IsAntisymmetric (take i xs)
+      x))
 
   pub member_outside : m < x → member_fault_after m (take i xs) (drop i xs) ≡ Some OutOfRange
   member_outside a = rw (split, outside m x a) refl
@@ -35,8 +37,18 @@ module _ (m : ℕ) (xs : List ℕ) (i x : ℕ) (h : i < length xs) (is : x ≡ g
   pub member_zero : x ≡ 0 → member_fault_after m (take i xs) (drop i xs) ≡ Some OutOfRange
   member_zero z = rw (split, z) refl
 
-  pub member_step : 1 ≤ x → x ≤ m → false ≡ set.contains (set.from_list {R = nat_cmp} (take i xs)) x → member_fault_after m (take i xs) (drop i xs) ≡ member_fault_after m (take (i + 1) xs) (drop (i + 1) xs)
-  member_step a b n = rw (split, ranged m x a b, ← set.contains-from_list_nat (take i xs) x, ← n, take_more xs i 0 h, ← is) refl
+  pub member_step : 1 ≤ x → x ≤ m → false ≡ set.contains (set.from_list {R = nat_cmp} (take i xs)) x
+      → member_fault_after m (take i xs) (drop i xs) ≡ member_fault_after m (take (i + 1) xs) (drop (i + 1) xs)
+  member_step a b n = rw (
+    split,
+    ranged m x a b,
+    ← set.contains-from_list_nat (take i xs) x,
+    ← n,
+    take_more xs i 0 h,
+    ←
+        is,
+  ) refl
 
-  pub member_repeats : 1 ≤ x → x ≤ m → true ≡ set.contains (set.from_list {R = nat_cmp} (take i xs)) x → member_fault_after m (take i xs) (drop i xs) ≡ Some Repeated
+  pub member_repeats : 1 ≤ x → x ≤ m → true ≡ set.contains (set.from_list {R = nat_cmp} (take i xs)) x
+      → member_fault_after m (take i xs) (drop i xs) ≡ Some Repeated
   member_repeats a b n = rw (split, ranged m x a b, ← set.contains-from_list_nat (take i xs) x, ← n) refl

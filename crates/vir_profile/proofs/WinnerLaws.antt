@@ -9,7 +9,8 @@ use Rattle.vir_profile.specs.Winners.{IsCondorcetWinner}
 use Rattle.vir_profile.proofs.RestrictionLaws.{restriction_keeps_pairs}
 
 -- a set has at most one Condorcet winner
-pub condorcet_winner_is_unique : (v w : ℕ) (a : Set) (lines : List Entry) → IsCondorcetWinner v a lines → IsCondorcetWinner w a lines → v ≡ w
+pub condorcet_winner_is_unique : (v w : ℕ) (a : Set) (lines : List Entry) → IsCondorcetWinner v a lines
+    → IsCondorcetWinner w a lines → v ≡ w
 condorcet_winner_is_unique v w a lines by_v by_w = step (nat_eq v w) (λ e. same v w e) (λ e. other v w e)
   where
     same : (v w : ℕ) → nat_eq v w ≡ true → v ≡ w
@@ -29,7 +30,8 @@ condorcet_winner_is_unique v w a lines by_v by_w = step (nat_eq v w) (λ e. same
     step false equal apart = both (apart refl)
 
 -- the Condorcet winner of a set is that of each part with it
-pub condorcet_winner_stays : (w : ℕ) (a d : Set) (lines : List Entry) → IsPart d a → set.contains d w ≡ true → IsCondorcetWinner w a lines → IsCondorcetWinner w d (restrict d lines)
+pub condorcet_winner_stays : (w : ℕ) (a d : Set) (lines : List Entry) → IsPart d a → set.contains d w ≡ true
+    → IsCondorcetWinner w a lines → IsCondorcetWinner w d (restrict d lines)
 condorcet_winner_stays w a d lines part inside winner = record {
   member = inside;
   wins = λ y member other.

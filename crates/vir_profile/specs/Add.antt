@@ -10,4 +10,5 @@ use Rattle.vir_profile.specs.Profiles.{Votes, lines_limit, total_weight, voters_
 abbrev pub add_fault : Votes → Entry → Option AddFault
 add_fault votes line =
     or_else (order_fault votes.alternatives line.order)
-    (or_else (fault_where (nat_le lines_limit (length votes.lines)) TooManyOrders) (fault_where (nat_lt voters_limit (total_weight votes.lines + line.weight)) TooManyVoters))
+    (or_else (fault_where (nat_le lines_limit (length votes.lines)) TooManyOrders)
+    (fault_where (nat_lt voters_limit (total_weight votes.lines + line.weight)) TooManyVoters))

@@ -1,5 +1,6 @@
 -- Which orders a profile takes: the first fault of an order, in the order in which faults are tried.
-use Rattle.std.specs.Prelude.{ℕ, ◌&&◌, Bool, List, [], ◌∷◌, ◌++◌, length, Option, Some, None, if◌then◌else◌, nat_le, nat_lt, nat_eq}
+use Rattle.std.specs.Prelude.{ℕ, ◌&&◌, Bool, List, [], ◌∷◌, ◌++◌, length, Option, Some, None, if◌then◌else◌, nat_le}
+use Rattle.std.specs.Prelude.{nat_lt, nat_eq}
 use Rattle.std.specs.List.{list_any}
 use Rattle.vir_profile.specs.declared.refused.AddFault.{AddFault}
 use Rattle.vir_profile.specs.declared.refused.AddFault.TheVariants.{OutOfRange, Repeated, Short}
@@ -8,7 +9,8 @@ use Rattle.vir_profile.specs.declared.refused.AddFault.TheVariants.{OutOfRange, 
 abbrev pub member_fault_after : ℕ → List ℕ → List ℕ → Option AddFault
 member_fault_after m before [] = None
 member_fault_after m before (x ∷ rest) =
-    if nat_le 1 x && nat_le x m then (if list_any (λ y. nat_eq y x) before then Some Repeated else member_fault_after m (before ++ x ∷ []) rest)
+    if nat_le 1 x && nat_le x m then (if list_any (λ y. nat_eq y x) before then Some Repeated else member_fault_after m
+    (before ++ x ∷ []) rest)
     else Some OutOfRange
 
 -- the fault, where the test is met

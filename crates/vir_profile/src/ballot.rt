@@ -1,5 +1,6 @@
 // Ballots, and the lines of a profile.
-ghost use Rattle.std.specs.Prelude.{◌≡◌, ◌≤◌, ◌<◌, ◌↔◌, [], ◌∷◌, ◌++◌, length, slice_index, IfOk, IsOk, IsTrue, OnOk, OnErr};
+ghost use Rattle.std.specs.Prelude.{◌≡◌, ◌≤◌, ◌<◌, ◌↔◌, [], ◌∷◌, ◌++◌, length, slice_index, IfOk, IsOk, IsTrue, OnOk};
+ghost use Rattle.std.specs.Prelude.{OnErr};
 
 use crate::few::{ALTERNATIVES_IN_PLACE, Few};
 use std::alloc::{AllocError, Global};

@@ -1,5 +1,6 @@
 // Profiles, and which lines they take.
-ghost use Rattle.std.specs.Prelude.{◌≡◌, None, ◌≤◌, ◌<◌, [], ◌∷◌, ◌++◌, length, slice_get, IfErr, OnOk, OnErr, unwrap_or};
+ghost use Rattle.std.specs.Prelude.{◌≡◌, None, ◌≤◌, ◌<◌, [], ◌∷◌, ◌++◌, length, slice_get, IfErr, OnOk, OnErr};
+ghost use Rattle.std.specs.Prelude.{unwrap_or};
 ghost use Rattle.std.specs.Option.{option_copied};
 ghost use Rattle.vir_altset.specs.Sets.{limit};
 ghost use Rattle.vir_profile.specs.Profiles.{total_weight, IsProfile};
@@ -78,7 +79,10 @@ impl Profile {
         ensures appended { OnOk result (self.new ≡ record self.old { lines = self.old.lines ++ entry ∷ [] }) }
 
         // The fault is the first one, and want of memory where there is none.
-        ensures refused { IfErr result (λ r. r ≡ record { fault = unwrap_or (add_fault self.old entry) AddFault.Memory; entry = entry }) }
+        ensures refused { IfErr result (λ r. r ≡ record {
+          fault = unwrap_or (add_fault self.old entry) AddFault.Memory;
+          entry = entry;
+        }) }
         ensures unchanged { OnErr result (self.new ≡ self.old) }
     {
         if let Some(fault) = judge_order(&entry.order, self.alternatives) {
@@ -93,7 +97,10 @@ impl Profile {
         requires { order_fault self.old.alternatives entry.order ≡ None }
         ensures accepted { OnOk result (add_fault self.old entry ≡ None) }
         ensures appended { OnOk result (self.new ≡ record self.old { lines = self.old.lines ++ entry ∷ [] }) }
-        ensures refused { IfErr result (λ r. r ≡ record { fault = unwrap_or (add_fault self.old entry) AddFault.Memory; entry = entry }) }
+        ensures refused { IfErr result (λ r. r ≡ record {
+          fault = unwrap_or (add_fault self.old entry) AddFault.Memory;
+          entry = entry;
+        }) }
         ensures unchanged { OnErr result (self.new ≡ self.old) }
     {
         if self.lines.len() >= LINES_LIMIT {

@@ -12,7 +12,8 @@ member_limit = 1024
 abbrev pub order_fault_after : List ℕ → List ℕ → Option OrderFault
 order_fault_after before [] = None
 order_fault_after before (x ∷ rest) =
-    if nat_le 1 x && nat_le x member_limit then (if list_any (λ y. nat_eq y x) before then Some Repeated else order_fault_after (before ++ x ∷ []) rest)
+    if nat_le 1 x && nat_le x member_limit then (if list_any (λ y. nat_eq y x) before then Some Repeated
+    else order_fault_after (before ++ x ∷ []) rest)
     else Some OutOfRange
 
 -- the first fault of a list, if it has one

@@ -38,7 +38,8 @@ pub enum OrderFault {
 impl FixedOrder {
     /// The fixed order that begins with this list.
     pub fn of(list: Vec<u16>) -> Result<FixedOrder, OrderFault>
-        ensures { MatchResult result (λ order. (order_fault list.items ≡ None) × (order ≡ list.items)) (λ fault. order_fault list.items ≡ Some fault) }
+        ensures { MatchResult result (λ order. (order_fault list.items ≡ None) × (order ≡ list.items))
+            (λ fault. order_fault list.items ≡ Some fault) }
     {
         for i in 0..list.len() {
             let x = list[i];

@@ -54,8 +54,10 @@ impl Term {
     // at most so many levels, and its numbers are in range.
     #[tactic(auto, using(crate::proofs::TreeLemmas::size_positive, crate::proofs::TreeLemmas::nesting_positive))]
     fn room_left(&self, room: u32, levels: u32) -> Option<u32>
-        ensures fits { (size (tree self.now) ≤ room) × (nesting (tree self.now) ≤ levels) × IsInRange (tree self.now) → IsSome result }
-        ensures left { IfSome result (λ left. (left + size (tree self.now) ≡ room) × (nesting (tree self.now) ≤ levels) × IsInRange (tree self.now)) }
+        ensures fits { (size (tree self.now) ≤ room) × (nesting (tree self.now) ≤ levels) × IsInRange (tree self.now)
+            → IsSome result }
+        ensures left { IfSome result (λ left. (left + size (tree self.now) ≡ room) × (nesting (tree self.now) ≤ levels)
+            × IsInRange (tree self.now)) }
     {
         if room == 0 || levels == 0 {
             return None;

@@ -33,7 +33,8 @@ fn push_module(
     k: u32,
     order: &FixedOrder,
 ) -> Result<(), AllocError>
-    ensures { OnOk result (text.new.items ≡ text.old.items ++ (name.now ++ decimal k ++ order_text order.now ++ codes ")")) }
+    ensures { OnOk result (text.new.items ≡ text.old.items ++ (name.now ++ decimal k ++ order_text order.now
+        ++ codes ")")) }
 {
     text.extend_from_slice(name)?;
     push_number(text, u64::from(k))?;

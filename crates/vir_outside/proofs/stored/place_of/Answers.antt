@@ -1,4 +1,5 @@
-use Rattle.std.proofs.Common.{◌≡◌, ℕ, ◌+◌, ◌<◌, Bool, true, cond, List, length, drop, get_or, Some, refl, sym, ap, subst, ◌∙◌}
+use Rattle.std.proofs.Common.{◌≡◌, ℕ, ◌+◌, ◌<◌, Bool, true, cond, List, length, drop, get_or, Some, refl, sym, ap}
+use Rattle.std.proofs.Common.{subst, ◌∙◌}
 use Rattle.std.specs.List.{slice_get}
 use Rattle.std.specs.Str.{bytes_eq}
 use Rattle.std.proofs.lemmas.List.{at_drop_more}
@@ -13,13 +14,15 @@ found_here : (files : Files) (name : List ℕ) (place : ℕ) (file : List ℕ ×
     → content_of files name ≡ content_of (drop place files) name
     → rest_at files (Some place) 0 ≡ content_of files name
 found_here files name place file within here same so_far =
-    let at_place : slice_get files place ≡ Some file = slice_get_read files (length files) place file refl within here in
+    let at_place : slice_get files place ≡ Some file = slice_get_read files (length files) place file refl within here
+    in
     let behind = content_of (drop (place + 1) files) name in
     let found_at = λ (f : List ℕ × List ℕ). cond (bytes_eq f.0 name) (Some f.1) behind in
     let step : content_of (drop place files) name ≡ found_at (get_or files place file) =
     at_drop_more (λ fs. content_of fs name) files place file within in
     let found : found_at (get_or files place file) ≡ Some file.1 =
-    subst (λ (f : List ℕ × List ℕ). found_at f ≡ Some file.1) here (ap (λ (b : Bool). cond b (Some file.1) behind) same) in
+    subst (λ (f : List ℕ × List ℕ). found_at f ≡ Some file.1) here (ap (λ (b : Bool). cond b (Some file.1) behind) same)
+    in
     rw at_place (sym (so_far ∙ step ∙ found))
 
 pub returns-then-is_named-clause-found : goal.returns-then-is_named-clause-found

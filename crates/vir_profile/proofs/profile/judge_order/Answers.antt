@@ -9,7 +9,8 @@ returns-then-has c =
     let place = c.loop-i.i in
     let x = c.at-x.result in
     let seen = sym c.if-has.true ∙ c.has.ensures ∙ ap (λ s. set.contains s x) c.loop-i.invariant.0 in
-    let fault = c.loop-i.invariant.1 ∙ member_repeats c.args.alternatives order place x (omega arith) c.at-x.ensures (omega arith) (omega arith) seen in
+    let fault = c.loop-i.invariant.1 ∙ member_repeats c.args.alternatives order place x (omega arith) c.at-x.ensures
+    (omega arith) (omega arith) seen in
     rw fault refl
 
 pub loop-i-preserved : goal.loop-i-preserved
@@ -19,6 +20,7 @@ loop-i-preserved c =
     let place = c.loop-i.i in
     let x = c.at-x.result in
     let seen = sym c.if-has.false ∙ c.has.ensures ∙ ap (λ s. set.contains s x) c.loop-i.invariant.0 in (
-      c.put.ensures ∙ ap (λ s. set.insert s x) c.loop-i.invariant.0 ∙ seen_more m order place x (omega arith) c.at-x.ensures,
+      c.put.ensures ∙ ap (λ s. set.insert s x) c.loop-i.invariant.0 ∙ seen_more m order place x (omega arith)
+          c.at-x.ensures,
       c.loop-i.invariant.1 ∙ member_step m order place x (omega arith) c.at-x.ensures (omega arith) (omega arith) seen,
     )

@@ -4,4 +4,5 @@ use Rattle.vir_altset.proofs.AllLemmas.{set_of-filled}
 use Rattle.vir_altset.proofs.alt_set.AltSet.all.Goals as goal
 
 pub returns : goal.returns
-returns c = set_of-filled word_count c.loop-i.words c.args.m (λ k h. c.loop-i.invariant.filled k (omega arith)) (omega arith)
+returns c = set_of-filled word_count c.loop-i.words c.args.m (λ k h. c.loop-i.invariant.filled k (omega arith))
+    (omega arith)

@@ -10,6 +10,7 @@ loop-i-init c = (sym (len-passing-0 (has_bit c.self.inside.words)), omega arith)
 
 pub loop-i-preserved : goal.loop-i-preserved
 loop-i-preserved c =
-    let few : count_ones (get_or c.self.inside.words c.loop-i.i 0) ≤ 64 = ones-le 64 _ (c.self.invariant.fit c.loop-i.i) in
+    let few : count_ones (get_or c.self.inside.words c.loop-i.i 0) ≤ 64 = ones-le 64 _ (c.self.invariant.fit c.loop-i.i)
+    in
     let more = len-further_word word_count c.self.inside.words c.loop-i.i c.self.invariant in
     (omega arith, omega arith)

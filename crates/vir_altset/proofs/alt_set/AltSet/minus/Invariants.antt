@@ -6,4 +6,5 @@ use Rattle.vir_altset.specs.Words.{word_count}
 use Rattle.vir_altset.proofs.alt_set.AltSet.minus.Given as goal
 
 abbrev pub invariant-loop-i : goal.invariant-loop-i
-invariant-loop-i l = JoinedBelow word_count (λ a b. bit_and a (bit_not w64 b)) l.initial.words l.other-inside.words l.words l.i
+invariant-loop-i l = JoinedBelow word_count (λ a b. bit_and a (bit_not w64 b)) l.initial.words l.other-inside.words
+    l.words l.i
