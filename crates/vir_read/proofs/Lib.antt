@@ -1,3 +1,4 @@
+pub mod DropLemmas
 pub mod TypingLemmas
 pub mod TypingWeights
 pub mod LimitLemmas

@@ -22,8 +22,8 @@ use Rattle.vir_term.specs.declared.score.Score.{Score}
 use Rattle.vir_read.specs.Faults.{OrFault, ◌>>=◌}
 use Rattle.vir_read.specs.RawTrees.{RawTree, RawTrees, word, number, bracket, none, more, list_of}
 use Rattle.vir_read.specs.BuiltIns.{built_in_named, takes, is_only_score}
-use Rattle.vir_read.specs.Arguments.{Names, AreWithinLimits, span, value_at, ranged, count_of, unrepeated, with_member, with_members, order_of, score_of}
-use Rattle.vir_read.specs.Typing.{Argument, ordered_leaf, plain_leaf, eliminator_leaf, pair_tree, end_of, composed, built_in, defined, word_typed, typed, arguments_of, sized, term_of}
+use Rattle.vir_read.specs.Arguments.{Names, AreWithinLimits, span, value_at, ranged, count_of, unrepeated, with_member, with_members, order_of, score_argument}
+use Rattle.vir_read.specs.Typing.{Argument, ordered_leaf, plain_leaf, eliminator_leaf, pair_tree, end_of, composition_of, built_in_term, defined_term, word_term, term_at, arguments_of, check_size, term_of}
 use Rattle.vir_read.proofs.TypingLemmas.{ranged_ok, order_more}
 use Rattle.std.specs.List.{list_any}
 use Rattle.std.specs.Prelude.{nat_eq}
@@ -119,40 +119,40 @@ pair_kept level pair.Seq s t k j = let f = k.flat in let g = j.flat in record { 
 pair_kept level pair.Par s t k j = let f = k.flat in let g = j.flat in record { flat = omega arith; in_range = (k.in_range, j.in_range) }
 
 module _ (text : List ℕ) (names : Names) (at level : ℕ) (flat : level ≤ nesting_limit) where
-  one_number_kept : (m : Ordered) (k : Argument) (t : Tree) → composed text names at level (word'.Ordered m) (k ∷ []) ≡ Ok t → IsKept level t
+  one_number_kept : (m : Ordered) (k : Argument) (t : Tree) → composition_of text names at level (word'.Ordered m) (k ∷ []) ≡ Ok t → IsKept level t
   one_number_kept m k t h =
       let b = bind_ok (count_of text k.tree) (λ k. Ok (leaf (ordered_leaf m k []))) t h in
       kept_as level (leaf (ordered_leaf m b.0 [])) t (ordered_kept level m b.0 [] flat (count_of_ok text k.tree b.0 b.1) refl) b.2
 
-  with_order_kept : (m : Ordered) (k o : Argument) (t : Tree) → composed text names at level (word'.Ordered m) (k ∷ o ∷ []) ≡ Ok t → IsKept level t
+  with_order_kept : (m : Ordered) (k o : Argument) (t : Tree) → composition_of text names at level (word'.Ordered m) (k ∷ o ∷ []) ≡ Ok t → IsKept level t
   with_order_kept m k o t h =
       let b = bind_ok (count_of text k.tree) (λ k. order_of text o.tree >>= λ order. Ok (leaf (ordered_leaf m k order))) t h in
       let d = bind_ok (order_of text o.tree) (λ order. Ok (leaf (ordered_leaf m b.0 order))) t b.2 in
       kept_as level (leaf (ordered_leaf m b.0 d.0)) t (ordered_kept level m b.0 d.0 flat (count_of_ok text k.tree b.0 b.1) (order_of_ok text o.tree d.0 d.1)) d.2
 
-  score_kept : (m : Eliminator) (s : Argument) (t : Tree) → composed text names at level (word'.Eliminator m) (s ∷ []) ≡ Ok t → IsKept level t
+  score_kept : (m : Eliminator) (s : Argument) (t : Tree) → composition_of text names at level (word'.Eliminator m) (s ∷ []) ≡ Ok t → IsKept level t
   score_kept m s t h =
-      let b = bind_ok (score_of text names s.tree) (λ s. Ok (leaf (eliminator_leaf m s))) t h in
+      let b = bind_ok (score_argument text names s.tree) (λ s. Ok (leaf (eliminator_leaf m s))) t h in
       kept_as level (leaf (eliminator_leaf m b.0)) t (eliminator_kept level m b.0 flat) b.2
 
-  rev_of_kept : (m : Argument) (t : Tree) → AreKept (m ∷ []) → composed text names at level word'.Rev (m ∷ []) ≡ Ok t → IsKept level t
+  rev_of_kept : (m : Argument) (t : Tree) → AreKept (m ∷ []) → composition_of text names at level word'.Rev (m ∷ []) ≡ Ok t → IsKept level t
   rev_of_kept m t k h =
       let b = bind_ok (m.term (level + 1)) (λ m. Ok (rev m)) t h in
       kept_as level (rev b.0) t (rev_kept level b.0 (k.0 (level + 1) b.0 b.1)) b.2
 
-  pair_of_kept : (p : Pair) (m n : Argument) (t : Tree) → AreKept (m ∷ n ∷ []) → composed text names at level (word'.Pair p) (m ∷ n ∷ []) ≡ Ok t → IsKept level t
+  pair_of_kept : (p : Pair) (m n : Argument) (t : Tree) → AreKept (m ∷ n ∷ []) → composition_of text names at level (word'.Pair p) (m ∷ n ∷ []) ≡ Ok t → IsKept level t
   pair_of_kept p m n t k h =
       let b = bind_ok (m.term (level + 1)) (λ first. n.term (level + 1) >>= λ second. Ok (pair_tree p first second)) t h in
       let d = bind_ok (n.term (level + 1)) (λ second. Ok (pair_tree p b.0 second)) t b.2 in
       kept_as level (pair_tree p b.0 d.0) t (pair_kept level p b.0 d.0 (k.0 (level + 1) b.0 b.1) (k.1.0 (level + 1) d.0 d.1)) d.2
 
-  loop_of_kept : (e : LoopEnd) (k m : Argument) (t : Tree) → AreKept (k ∷ m ∷ []) → composed text names at level (word'.Loop e) (k ∷ m ∷ []) ≡ Ok t → IsKept level t
+  loop_of_kept : (e : LoopEnd) (k m : Argument) (t : Tree) → AreKept (k ∷ m ∷ []) → composition_of text names at level (word'.Loop e) (k ∷ m ∷ []) ≡ Ok t → IsKept level t
   loop_of_kept e n m t k h =
       let b = bind_ok (count_of text n.tree) (λ k. m.term (level + 1) >>= λ body. Ok (loop (end_of e k) body)) t h in
       let d = bind_ok (m.term (level + 1)) (λ body. Ok (loop (end_of e b.0) body)) t b.2 in
       kept_as level (loop (end_of e b.0) d.0) t (loop_kept level e b.0 d.0 (count_of_ok text n.tree b.0 b.1) (k.1.0 (level + 1) d.0 d.1)) d.2
 
-  composed_kept : (w : BuiltIn) (arguments : List Argument) (t : Tree) → AreKept arguments → composed text names at level w arguments ≡ Ok t → IsKept level t
+  composed_kept : (w : BuiltIn) (arguments : List Argument) (t : Tree) → AreKept arguments → composition_of text names at level w arguments ≡ Ok t → IsKept level t
   composed_kept (word'.Plain m) [] t k h = kept_as level (leaf (plain_leaf m)) t (plain_kept level m flat) h
   composed_kept (word'.Plain m) (a ∷ rest) t k h = cc
   composed_kept (word'.Ordered m) [] t k h = cc
@@ -176,14 +176,14 @@ module _ (text : List ℕ) (names : Names) (at level : ℕ) (flat : level ≤ ne
   composed_kept (word'.OnlyScore s) arguments t k h = cc
 
 built_in_kept : (text : List ℕ) (names : Names) (at level : ℕ) (w : BuiltIn) (arguments : List Argument) (t : Tree)
-    → AreKept arguments → built_in text names at level w arguments ≡ Ok t → IsKept level t
+    → AreKept arguments → built_in_term text names at level w arguments ≡ Ok t → IsKept level t
 built_in_kept text names at level w arguments t k h =
     let a = guard_else (is_only_score w) _ _ t h in
     let b = guard_then (takes w (length arguments)) _ _ t a.1 in
-    let d = guard_then (nat_le level nesting_limit) _ (composed text names at level w arguments) t b.1 in
+    let d = guard_then (nat_le level nesting_limit) _ (composition_of text names at level w arguments) t b.1 in
     composed_kept text names at level (at_most level nesting_limit d.0) w arguments t k d.1
 
-defined_kept : (at level n : ℕ) (found : Option Tree) (t : Tree) → ((s : Tree) → found ≡ Some s → IsWithinLimits s) → defined at level n found ≡ Ok t → IsKept level t
+defined_kept : (at level n : ℕ) (found : Option Tree) (t : Tree) → ((s : Tree) → found ≡ Some s → IsWithinLimits s) → defined_term at level n found ≡ Ok t → IsKept level t
 defined_kept at level n None t k h = cc
 defined_kept at level n (Some s) t k h =
     let a = guard_then (nat_eq n 0) _ _ t h in
@@ -192,12 +192,12 @@ defined_kept at level n (Some s) t k h =
 
 module _ (text : List ℕ) (names : Names) (within : AreWithinLimits names) where
   word_kept : (at level : ℕ) (name : List ℕ) (arguments : List Argument) (w : Option BuiltIn) (t : Tree)
-      → AreKept arguments → word_typed text names at level name arguments w ≡ Ok t → IsKept level t
+      → AreKept arguments → word_term text names at level name arguments w ≡ Ok t → IsKept level t
   word_kept at level name arguments (Some w) t k h = built_in_kept text names at level w arguments t k h
   word_kept at level name arguments None t k h = defined_kept at level (length arguments) (names name) t (within name) h
 
   mutual
-    typed_kept : (raw : RawTree) (level : ℕ) (t : Tree) → typed text names raw level ≡ Ok t → IsKept level t
+    typed_kept : (raw : RawTree) (level : ℕ) (t : Tree) → term_at text names raw level ≡ Ok t → IsKept level t
     typed_kept (number start end) level t h = cc
     typed_kept (bracket start members) level t h = cc
     typed_kept (word start end parts) level t h =
@@ -209,7 +209,7 @@ module _ (text : List ℕ) (names : Names) (within : AreWithinLimits names) wher
 
   pub term_of_within : (at : ℕ) (raw : RawTree) (t : Tree) → term_of text names at raw ≡ Ok t → IsWithinLimits t
   term_of_within at raw t h =
-      let b = bind_ok (typed text names raw 1) (sized at) t h in
+      let b = bind_ok (term_at text names raw 1) (check_size at) t h in
       let g = guard_then (nat_le (size b.0) size_limit) _ (Ok b.0) t b.2 in
       let k = typed_kept raw 1 t (b.1 ∙ g.1) in
       let flat = k.flat in

@@ -20,8 +20,8 @@ use Rattle.vir_term.specs.Tree.{Tree, leaf, rev, seq, par, loop, exactly, at_mos
 use Rattle.vir_read.specs.Faults.{◌>>=◌}
 use Rattle.vir_read.specs.RawTrees.{RawTree, RawTrees, none, more, list_of}
 use Rattle.vir_read.specs.BuiltIns.{built_in_named, score_named}
-use Rattle.vir_read.specs.Arguments.{Names, value_after, ranged, count_of, unrepeated, with_member, with_members, order_of, is_known, as_score, score_of}
-use Rattle.vir_read.specs.Typing.{typed, arguments_of, word_typed}
+use Rattle.vir_read.specs.Arguments.{Names, value_after, ranged, count_of, unrepeated, with_member, with_members, order_of, is_known, as_score, score_argument}
+use Rattle.vir_read.specs.Typing.{term_at, arguments_of, word_term}
 use Rattle.vir_read.specs.Spelling.{IsWord, IsNumber, AreNumbers, IsBracket, SpellsLeaf, Spells}
 
 -- ---- numbers
@@ -93,31 +93,31 @@ module _ (text : List ℕ) (names : Names) where
   score_named-text score.Minimax = refl
   score_named-text score.Condorcet = refl
 
-  score_of-word : (raw : RawTree) (s : Score) → IsWord text (score_text s) none raw → score_of text names raw ≡ Ok s
-  score_of-word raw s w =
-      ap (score_of text names) w.shape ∙ ap (λ n. as_score w.start none (is_known names n) (score_named n)) w.written
+  score_argument-word : (raw : RawTree) (s : Score) → IsWord text (score_text s) none raw → score_argument text names raw ≡ Ok s
+  score_argument-word raw s w =
+      ap (score_argument text names) w.shape ∙ ap (λ n. as_score w.start none (is_known names n) (score_named n)) w.written
       ∙ ap (as_score w.start none (is_known names (score_text s))) (score_named-text s)
 
   -- ---- terms
 
   -- a tree of a word is typed by the word that is written there
   typed-word : (raw : RawTree) (name : List ℕ) (parts : RawTrees) (level : ℕ) → (w : IsWord text name parts raw) →
-      typed text names raw level ≡ word_typed text names w.start level name (arguments_of text names parts) (built_in_named name)
+      term_at text names raw level ≡ word_term text names w.start level name (arguments_of text names parts) (built_in_named name)
   typed-word raw name parts level w =
-      ap (λ r. typed text names r level) w.shape
-      ∙ ap (λ n. word_typed text names w.start level n (arguments_of text names parts) (built_in_named n)) w.written
+      ap (λ r. term_at text names r level) w.shape
+      ∙ ap (λ n. word_term text names w.start level n (arguments_of text names parts) (built_in_named n)) w.written
 
   level_is_low : (level : ℕ) → level ≤ nesting_limit → nat_le level nesting_limit ≡ true
   level_is_low level h = grind (arith, nat_tests)
 
-  typed-leaf : (l : Leaf) (raw : RawTree) (level : ℕ) → SpellsLeaf text l raw → IsLeafInRange l → level ≤ nesting_limit → typed text names raw level ≡ Ok (leaf l)
+  typed-leaf : (l : Leaf) (raw : RawTree) (level : ℕ) → SpellsLeaf text l raw → IsLeafInRange l → level ≤ nesting_limit → term_at text names raw level ≡ Ok (leaf l)
   typed-leaf Elect raw level w r h = typed-word raw (codes "elect") none level w ∙ rw (level_is_low level h) refl
   typed-leaf Defer raw level w r h = typed-word raw (codes "defer") none level w ∙ rw (level_is_low level h) refl
   typed-leaf Plurality raw level w r h = typed-word raw (codes "plurality") none level w ∙ rw (level_is_low level h) refl
-  typed-leaf (Max s) raw level w r h = typed-word raw (codes "max") (more w.0 none) level w.1 ∙ rw (level_is_low level h, score_of-word w.0 s w.2) refl
-  typed-leaf (Min s) raw level w r h = typed-word raw (codes "min") (more w.0 none) level w.1 ∙ rw (level_is_low level h, score_of-word w.0 s w.2) refl
-  typed-leaf (Below s) raw level w r h = typed-word raw (codes "below") (more w.0 none) level w.1 ∙ rw (level_is_low level h, score_of-word w.0 s w.2) refl
-  typed-leaf (Upto s) raw level w r h = typed-word raw (codes "upto") (more w.0 none) level w.1 ∙ rw (level_is_low level h, score_of-word w.0 s w.2) refl
+  typed-leaf (Max s) raw level w r h = typed-word raw (codes "max") (more w.0 none) level w.1 ∙ rw (level_is_low level h, score_argument-word w.0 s w.2) refl
+  typed-leaf (Min s) raw level w r h = typed-word raw (codes "min") (more w.0 none) level w.1 ∙ rw (level_is_low level h, score_argument-word w.0 s w.2) refl
+  typed-leaf (Below s) raw level w r h = typed-word raw (codes "below") (more w.0 none) level w.1 ∙ rw (level_is_low level h, score_argument-word w.0 s w.2) refl
+  typed-leaf (Upto s) raw level w r h = typed-word raw (codes "upto") (more w.0 none) level w.1 ∙ rw (level_is_low level h, score_argument-word w.0 s w.2) refl
   typed-leaf (PassFirst k []) raw level w r h = typed-word raw (codes "pass") (more w.0 none) level w.1 ∙ rw (level_is_low level h, count_of-number w.0 k w.2 r.0) refl
   typed-leaf (DropFirst k []) raw level w r h = typed-word raw (codes "drop") (more w.0 none) level w.1 ∙ rw (level_is_low level h, count_of-number w.0 k w.2 r.0) refl
   typed-leaf (PassFirst k (x ∷ rest)) raw level w r h =
@@ -127,7 +127,7 @@ module _ (text : List ℕ) (names : Names) where
       typed-word raw (codes "drop") (more w.0 (more w.1 none)) level w.2
       ∙ rw (level_is_low level h, count_of-number w.0 k w.3 r.0, order_of-bracket w.1 (x ∷ rest) w.4 r.1) refl
 
-  pub typed-spelled : (t : Tree) (raw : RawTree) (level : ℕ) → Spells text t raw → IsInRange t → level + nesting t ≤ nesting_limit + 1 → typed text names raw level ≡ Ok t
+  pub typed-spelled : (t : Tree) (raw : RawTree) (level : ℕ) → Spells text t raw → IsInRange t → level + nesting t ≤ nesting_limit + 1 → term_at text names raw level ≡ Ok t
   typed-spelled (leaf l) raw level w r h = typed-leaf l raw level w r (omega arith)
   typed-spelled (rev part) raw level w r h =
       typed-word raw (codes "rev") (more w.0 none) level w.1

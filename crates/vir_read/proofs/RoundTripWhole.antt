@@ -11,7 +11,7 @@ use Rattle.vir_read.specs.Tokens.{run, is_word_byte, tokens_from, tokens_of}
 use Rattle.vir_read.specs.RawTrees.{RawTree}
 use Rattle.vir_read.specs.Grammar.{unclosed_limit}
 use Rattle.vir_read.specs.Arguments.{Names}
-use Rattle.vir_read.specs.Typing.{sized, term_of}
+use Rattle.vir_read.specs.Typing.{check_size, term_of}
 use Rattle.vir_read.specs.Spelling.{Spells}
 use Rattle.vir_read.specs.Pieces.{Piece, name, sign, SayAll, term_pieces, with_tokens, OpensNothing}
 use Rattle.vir_read.specs.Printed.{is_name, definition_text, IsRead, IsDefinition}
@@ -25,7 +25,7 @@ size_is_small n h = grind (arith, nat_tests)
 pub term_of-spelled : (text : List ℕ) (names : Names) (at : ℕ) (t : Tree) (raw : RawTree) → Spells text t raw → IsWithinLimits t → term_of text names at raw ≡ Ok t
 term_of-spelled text names at t raw spelled within =
     let flat : 1 + nesting t ≤ nesting_limit + 1 = omega (arith, within.flat) in
-    ap (λ r. r >>= sized at) (typed-spelled text names t raw 1 spelled within.in_range flat)
+    ap (λ r. r >>= check_size at) (typed-spelled text names t raw 1 spelled within.in_range flat)
     ∙ ap (λ b. if b then Ok t else Err (fault TooLarge at)) (size_is_small (size t) within.small)
 
 pub read-said : (text : List ℕ) (t : Tree) (tokens rest : List Token) → IsWithinLimits t → SayAll text (term_pieces t) tokens → OpensNothing text rest →

@@ -18,6 +18,7 @@ use Rattle.vir_read.specs.Faults.{OrFault, ◌>>=◌, fault, Fails, Gives}
 use Rattle.vir_read.specs.RawTrees.{RawTree, gathered, list_of}
 use Rattle.vir_read.specs.Arguments.{Names, value_after, ranged, as_score, with_member, with_members}
 use Rattle.vir_read.specs.Typing.{arguments_of, pair_tree}
+use Rattle.vir_read.proofs.DropLemmas.{drop_here}
 
 pub value_cut : (ds : List ℕ) (a b : ℕ) → min a (count_limit + 1) ≡ min b (count_limit + 1) → min (value_after a ds) (count_limit + 1) ≡ min (value_after b ds) (count_limit + 1)
 value_cut [] a b h = h
@@ -70,11 +71,6 @@ within most n h = grind (arith, nat_tests)
 
 pub ranged_ok : (most start v n : ℕ) → ranged most start v ≡ Ok n → (1 ≤ n) × (n ≤ most)
 ranged_ok most start v n h = let k = in_range (nat_le 1 v && nat_le v most) v n _ h in let w = within most v k.0 in let e : v ≡ n = k.1 in (omega arith, omega arith)
-
-drop_here : {A : Type 0} (xs : List A) (i : ℕ) (x : A) → slice_get xs i ≡ Some x → drop i xs ≡ x ∷ drop (i + 1) xs
-drop_here [] i x h = cc
-drop_here (y ∷ ys) zero x h = cc
-drop_here (y ∷ ys) (suc i) x h = rw (add-one (suc i)) (rw add-one at (drop_here ys i x h))
 
 pub member_step : (text seen : List ℕ) (ms : List RawTree) (i : ℕ) (s : RawTree) → slice_get ms i ≡ Some s →
     with_members text seen (drop i ms) ≡ (with_member text seen s >>= λ x. with_members text x (drop (i + 1) ms))

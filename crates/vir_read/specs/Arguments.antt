@@ -77,7 +77,7 @@ as_score at none known (Some s) = Ok s
 as_score at (more _ _) known (Some s) = Err (fault WrongCountOfArguments at)
 
 -- Where a score is wanted.
-abbrev pub score_of : List ℕ → Names → RawTree → OrFault Score
-score_of text names (word start end parts) = as_score start parts (is_known names (span text start end)) (score_named (span text start end))
-score_of text names (number start end) = Err (fault WrongSort start)
-score_of text names (bracket start members) = Err (fault WrongSort start)
+abbrev pub score_argument : List ℕ → Names → RawTree → OrFault Score
+score_argument text names (word start end parts) = as_score start parts (is_known names (span text start end)) (score_named (span text start end))
+score_argument text names (number start end) = Err (fault WrongSort start)
+score_argument text names (bracket start members) = Err (fault WrongSort start)

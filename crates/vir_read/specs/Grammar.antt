@@ -2,14 +2,13 @@
 --
 -- A tree is a word, a word with trees in parentheses, a number, or numbers in brackets. What is read gives a value
 -- and the tokens behind it, or a fault at the first token that the grammar doesn't allow.
-use Rattle.std.specs.Prelude.{ℕ, zero, suc, List, [], ◌∷◌, length, Option, Some, None, Ok, Err}
+use Rattle.std.specs.Prelude.{ℕ, zero, suc, List, [], ◌∷◌, length, Option, Some, None, Ok, Err, if◌then◌else◌}
 use Rattle.vir_read.specs.declared.token.Token.{Token}
 use Rattle.vir_read.specs.declared.symbol.Symbol.{Symbol}
 use Rattle.vir_read.specs.declared.symbol.Symbol.TheVariants.{Word, Number, OpenParenthesis, CloseParenthesis, OpenBracket, CloseBracket, Comma}
 use Rattle.vir_read.specs.declared.text_fault.TextKind.TheVariants.{Unexpected, TooDeep}
-use Rattle.vir_read.specs.declared.tree_reader.TheConstants.{UNCLOSED_LIMIT}
 use Rattle.vir_read.specs.Faults.{OrFault, ◌>>=◌, fault}
-use Rattle.vir_read.specs.Symbols.{symbol}
+use Rattle.vir_read.specs.Symbols.{symbol, is_same}
 use Rattle.vir_read.specs.RawTrees.{RawTree, RawTrees, word, number, bracket, none, more}
 
 -- a value and the tokens behind it, or the first fault
@@ -20,10 +19,19 @@ Read A = OrFault (A × List Token)
 abbrev pub Reads : Type 0
 Reads = List Token → Read RawTree
 
+-- where the next token stands, or the text's length where there is none
+abbrev pub front_place : List ℕ → List Token → ℕ
+front_place text [] = length text
+front_place text (t ∷ rest) = t.start
+
 -- the next token isn't allowed, or the text ends too early
 abbrev pub unexpected : {A : Type 0} → List ℕ → List Token → Read A
-unexpected text [] = Err (fault Unexpected (length text))
-unexpected text (t ∷ rest) = Err (fault Unexpected t.start)
+unexpected text tokens = Err (fault Unexpected (front_place text tokens))
+
+-- the next token, which must be this to the grammar
+abbrev pub symbol_of : List ℕ → Symbol → List Token → Read Token
+symbol_of text wanted [] = unexpected text []
+symbol_of text wanted (t ∷ rest) = if is_same wanted (symbol text t) then Ok (t, rest) else unexpected text (t ∷ rest)
 
 -- a sign at this place opens what is read so, where one more sign may be left unclosed
 abbrev pub opened : ℕ → Option Reads → (Reads → Read RawTree) → Read RawTree
@@ -112,7 +120,7 @@ inside text (suc room) = Some (tree_within text room)
 
 -- how many signs may be unclosed at a time
 abbrev pub unclosed_limit : ℕ
-unclosed_limit = UNCLOSED_LIMIT
+unclosed_limit = 80
 
 -- a tree of a text, and the tokens behind it
 abbrev pub tree_of : List ℕ → Reads

@@ -1,5 +1,5 @@
 -- What tokens are to the grammar.
-use Rattle.std.specs.Prelude.{ℕ, ◌==◌, List, Option, Some, None, if◌then◌else◌, slice_get}
+use Rattle.std.specs.Prelude.{ℕ, Bool, true, false, ◌==◌, List, Option, Some, None, if◌then◌else◌, slice_get}
 use Rattle.vir_read.specs.declared.token.Token.{Token}
 use Rattle.vir_read.specs.declared.token.TokenKind.{TokenKind}
 use Rattle.vir_read.specs.declared.token.TokenKind.TheVariants as kind
@@ -29,3 +29,16 @@ kind_symbol kind.Sign b = byte_symbol b
 -- what a token of a text is to the grammar
 abbrev pub symbol : List ℕ → Token → Symbol
 symbol text t = kind_symbol t.kind (slice_get text t.start)
+
+-- whether two symbols are the same
+abbrev pub is_same : Symbol → Symbol → Bool
+is_same Word Word = true
+is_same Number Number = true
+is_same OpenParenthesis OpenParenthesis = true
+is_same CloseParenthesis CloseParenthesis = true
+is_same OpenBracket OpenBracket = true
+is_same CloseBracket CloseBracket = true
+is_same Comma Comma = true
+is_same Semicolon Semicolon = true
+is_same Equals Equals = true
+is_same _ _ = false

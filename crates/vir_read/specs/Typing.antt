@@ -21,7 +21,7 @@ use Rattle.vir_read.specs.declared.built_in.LoopEnd.TheVariants as loop_end
 use Rattle.vir_read.specs.Faults.{OrFault, ◌>>=◌, fault}
 use Rattle.vir_read.specs.RawTrees.{RawTree, RawTrees, word, number, bracket, none, more}
 use Rattle.vir_read.specs.BuiltIns.{built_in_named, takes, is_only_score}
-use Rattle.vir_read.specs.Arguments.{Names, span, count_of, order_of, score_of}
+use Rattle.vir_read.specs.Arguments.{Names, span, count_of, order_of, score_argument}
 
 -- an argument: its tree, and the term that it is at each level of nesting
 pub record Argument : Type 0 where
@@ -52,57 +52,57 @@ end_of loop_end.Exactly k = exactly k
 end_of loop_end.AtMost k = at_most k
 
 -- The arguments are judged from left to right, each whole before the next. A term among them stands a level below.
-abbrev pub composed : List ℕ → Names → ℕ → ℕ → BuiltIn → List Argument → OrFault Tree
-composed text names at level (word'.Plain m) [] = Ok (leaf (plain_leaf m))
-composed text names at level (word'.Ordered m) (k ∷ []) = count_of text k.tree >>= λ k. Ok (leaf (ordered_leaf m k []))
-composed text names at level (word'.Ordered m) (k ∷ o ∷ []) =
+abbrev pub composition_of : List ℕ → Names → ℕ → ℕ → BuiltIn → List Argument → OrFault Tree
+composition_of text names at level (word'.Plain m) [] = Ok (leaf (plain_leaf m))
+composition_of text names at level (word'.Ordered m) (k ∷ []) = count_of text k.tree >>= λ k. Ok (leaf (ordered_leaf m k []))
+composition_of text names at level (word'.Ordered m) (k ∷ o ∷ []) =
     count_of text k.tree >>= λ k. order_of text o.tree >>= λ order. Ok (leaf (ordered_leaf m k order))
-composed text names at level (word'.Eliminator m) (s ∷ []) = score_of text names s.tree >>= λ s. Ok (leaf (eliminator_leaf m s))
-composed text names at level word'.Rev (m ∷ []) = m.term (level + 1) >>= λ m. Ok (rev m)
-composed text names at level (word'.Pair composition) (m ∷ n ∷ []) =
+composition_of text names at level (word'.Eliminator m) (s ∷ []) = score_argument text names s.tree >>= λ s. Ok (leaf (eliminator_leaf m s))
+composition_of text names at level word'.Rev (m ∷ []) = m.term (level + 1) >>= λ m. Ok (rev m)
+composition_of text names at level (word'.Pair composition) (m ∷ n ∷ []) =
     m.term (level + 1) >>= λ first. n.term (level + 1) >>= λ second. Ok (pair_tree composition first second)
-composed text names at level (word'.Loop end) (k ∷ m ∷ []) = count_of text k.tree >>= λ k. m.term (level + 1) >>= λ body. Ok (loop (end_of end k) body)
-composed text names at level _ _ = Err (fault WrongCountOfArguments at)
+composition_of text names at level (word'.Loop end) (k ∷ m ∷ []) = count_of text k.tree >>= λ k. m.term (level + 1) >>= λ body. Ok (loop (end_of end k) body)
+composition_of text names at level _ _ = Err (fault WrongCountOfArguments at)
 
 -- A built-in word: first it must be no score, then have as many arguments as it takes, then be not too deep.
-abbrev pub built_in : List ℕ → Names → ℕ → ℕ → BuiltIn → List Argument → OrFault Tree
-built_in text names at level w arguments =
+abbrev pub built_in_term : List ℕ → Names → ℕ → ℕ → BuiltIn → List Argument → OrFault Tree
+built_in_term text names at level w arguments =
     if is_only_score w then Err (fault WrongSort at)
     else (if takes w (length arguments)
-    then (if nat_le level nesting_limit then composed text names at level w arguments else Err (fault TooDeep at))
+    then (if nat_le level nesting_limit then composition_of text names at level w arguments else Err (fault TooDeep at))
     else Err (fault WrongCountOfArguments at))
 
 -- A defined name stands for its term, and takes no arguments. Its own nesting counts.
-abbrev pub defined : ℕ → ℕ → ℕ → Option Tree → OrFault Tree
-defined at level n None = Err (fault UnknownName at)
-defined at level n (Some t) =
+abbrev pub defined_term : ℕ → ℕ → ℕ → Option Tree → OrFault Tree
+defined_term at level n None = Err (fault UnknownName at)
+defined_term at level n (Some t) =
     if n == 0
     then (if nat_le (level + nesting t) (nesting_limit + 1) then Ok t else Err (fault TooDeep at))
     else Err (fault WrongCountOfArguments at)
 
-abbrev pub word_typed : List ℕ → Names → ℕ → ℕ → List ℕ → List Argument → Option BuiltIn → OrFault Tree
-word_typed text names at level name arguments (Some w) = built_in text names at level w arguments
-word_typed text names at level name arguments None = defined at level (length arguments) (names name)
+abbrev pub word_term : List ℕ → Names → ℕ → ℕ → List ℕ → List Argument → Option BuiltIn → OrFault Tree
+word_term text names at level name arguments (Some w) = built_in_term text names at level w arguments
+word_term text names at level name arguments None = defined_term at level (length arguments) (names name)
 
 -- Where a term is wanted, at a level of nesting, from 1 on.
 abbrev mutual
-  pub typed : List ℕ → Names → RawTree → ℕ → OrFault Tree
-  typed text names (number start end) level = Err (fault WrongSort start)
-  typed text names (bracket start members) level = Err (fault WrongSort start)
-  typed text names (word start end parts) level =
-      word_typed text names start level (span text start end) (arguments_of text names parts) (built_in_named (span text start end))
+  pub term_at : List ℕ → Names → RawTree → ℕ → OrFault Tree
+  term_at text names (number start end) level = Err (fault WrongSort start)
+  term_at text names (bracket start members) level = Err (fault WrongSort start)
+  term_at text names (word start end parts) level =
+      word_term text names start level (span text start end) (arguments_of text names parts) (built_in_named (span text start end))
 
   pub arguments_of : List ℕ → Names → RawTrees → List Argument
   arguments_of text names none = []
-  arguments_of text names (more t rest) = record { tree = t; term = λ level. typed text names t level } ∷ arguments_of text names rest
+  arguments_of text names (more t rest) = record { tree = t; term = λ level. term_at text names t level } ∷ arguments_of text names rest
 
 -- a term that isn't too large
-abbrev pub sized : ℕ → Tree → OrFault Tree
-sized at t = if nat_le (size t) size_limit then Ok t else Err (fault TooLarge at)
+abbrev pub check_size : ℕ → Tree → OrFault Tree
+check_size at t = if nat_le (size t) size_limit then Ok t else Err (fault TooLarge at)
 
 -- The term of a whole tree, or its first fault; last that it is too large, at this place.
 abbrev pub term_of : List ℕ → Names → ℕ → RawTree → OrFault Tree
-term_of text names at t = typed text names t 1 >>= sized at
+term_of text names at t = term_at text names t 1 >>= check_size at
 
 -- where a tree begins
 abbrev pub first_place : RawTree → ℕ

@@ -1,11 +1,11 @@
-// The arguments that are no terms.
+// The arguments that are no terms: numbers, fixed orders and scores.
 ghost use Rattle.std.specs.Prelude.{◌≡◌, ◌≤◌, ◌+◌, ◌++◌, ◌∷◌, [], min, IfOk, None};
 ghost use Rattle.vir_term.specs.Limits.{count_limit};
 ghost use Rattle.vir_term.specs.Orders.{order_fault};
 ghost use Rattle.vir_read.specs.Faults.{Gives};
 ghost use Rattle.vir_read.specs.RawTrees.{raw_tree, listed, gathered};
 ghost use Rattle.vir_read.specs.BuiltIns.{score_named};
-ghost use Rattle.vir_read.specs.Arguments.{span, value_after, value_at, ranged, count_of, with_member, with_members, order_of, is_known, as_score, score_of};
+ghost use Rattle.vir_read.specs.Arguments.{span, value_after, value_at, ranged, count_of, with_member, with_members, order_of, is_known, as_score, score_argument};
 
 use crate::built_in::{built_in_named, score_named};
 use crate::names::Names;
@@ -122,7 +122,7 @@ pub fn is_known<M: Names>(names: &M, name: &[u8]) -> bool
 }
 
 // The score that a word at a place stands for.
-fn score_of_word<M: Names>(
+fn score_word<M: Names>(
     names: &M,
     name: &[u8],
     at: usize,
@@ -131,7 +131,7 @@ fn score_of_word<M: Names>(
     ensures { Gives (λ score. score) result (as_score at (gathered (listed parts.now)) (is_known (M.meaning names.now) name.now) (score_named name.now)) }
 {
     match score_named(name) {
-        Some(score) if parts.len() == 0 => Ok(score),
+        Some(score) if parts.is_empty() => Ok(score),
         Some(_) => Err(TextError::fault(TextKind::WrongCountOfArguments, at)),
         None if is_known(names, name) => Err(TextError::fault(TextKind::WrongSort, at)),
         None => Err(TextError::fault(TextKind::UnknownName, at)),
@@ -139,12 +139,12 @@ fn score_of_word<M: Names>(
 }
 
 /// The score that a tree stands for, where an eliminator wants one.
-pub fn score_of<M: Names>(text: &[u8], names: &M, raw: &Raw) -> Result<Score, TextError>
-    ensures { Gives (λ score. score) result (score_of text.now (M.meaning names.now) (raw_tree raw.now)) }
+pub fn score_argument<M: Names>(text: &[u8], names: &M, raw: &Raw) -> Result<Score, TextError>
+    ensures { Gives (λ score. score) result (score_argument text.now (M.meaning names.now) (raw_tree raw.now)) }
 {
     match raw {
         Raw::Word { start, end, parts } => {
-            score_of_word(names, span(text, *start, *end), *start, parts)
+            score_word(names, span(text, *start, *end), *start, parts)
         }
         Raw::Number { start, .. } => Err(TextError::fault(TextKind::WrongSort, *start)),
         Raw::List { start, .. } => Err(TextError::fault(TextKind::WrongSort, *start)),

@@ -22,7 +22,7 @@ pub enum Built {
 }
 
 // A module.
-pub fn leaf_built(electoral_module: Leaf) -> Result<Built, TextError>
+pub fn build_leaf(electoral_module: Leaf) -> Result<Built, TextError>
     ensures { Builds result (Ok (leaf electoral_module)) }
 {
     Ok(Built::Small {
@@ -32,7 +32,7 @@ pub fn leaf_built(electoral_module: Leaf) -> Result<Built, TextError>
 }
 
 // A composition of one term.
-pub fn rev_built(alloc: Global, part: Built) -> Result<Built, TextError>
+pub fn build_rev(alloc: Global, part: Built) -> Result<Built, TextError>
     ensures { (t : Tree) → IsKeptOf part t → Builds result (Ok (rev t)) }
 {
     let Built::Small { term, size } = part else {
@@ -61,7 +61,7 @@ fn loop_term(end: LoopEnd, k: u32, body: Box<Term>) -> Term
 }
 
 // The same of what is kept of the term.
-pub fn loop_built(alloc: Global, end: LoopEnd, k: u32, body: Built) -> Result<Built, TextError>
+pub fn build_loop(alloc: Global, end: LoopEnd, k: u32, body: Built) -> Result<Built, TextError>
     ensures { (t : Tree) → IsKeptOf body t → Builds result (Ok (loop (end_of end k) t)) }
 {
     let Built::Small { term, size } = body else {
@@ -91,7 +91,7 @@ fn pair_term(pair: Pair, first: Box<Term>, second: Box<Term>) -> Term
 
 // The same of what is kept of the terms.
 #[tactic(auto, using(crate::proofs::TypingLemmas::pair_size))]
-pub fn pair_built(
+pub fn build_pair(
     alloc: Global,
     pair: Pair,
     first: Built,

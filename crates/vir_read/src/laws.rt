@@ -2,14 +2,15 @@
 //! what is proved of the language's definitions.
 ghost use Rattle.std.specs.Prelude.{ℕ, ◌≡◌, ◌≤◌, ◌+◌, ◌*◌, ◌++◌, List, Ok, length, true};
 ghost use Rattle.vir_term.specs.Tree.{Tree, nesting, size};
-ghost use Rattle.vir_term.specs.Limits.{IsInRange, IsWithinLimits, nesting_limit};
+ghost use Rattle.vir_term.specs.Limits.{IsInRange, IsWithinLimits, count_limit, nesting_limit, size_limit};
+ghost use Rattle.vir_term.specs.Orders.{member_limit};
 ghost use Rattle.vir_term.specs.Text.{term_text};
 ghost use Rattle.vir_read.specs.declared.token.Token.{Token};
 ghost use Rattle.vir_read.specs.Tokens.{run, is_word_byte, tokens_from};
 ghost use Rattle.vir_read.specs.RawTrees.{RawTree};
-ghost use Rattle.vir_read.specs.Grammar.{tree_of};
+ghost use Rattle.vir_read.specs.Grammar.{tree_of, unclosed_limit};
 ghost use Rattle.vir_read.specs.Arguments.{Names};
-ghost use Rattle.vir_read.specs.Typing.{typed};
+ghost use Rattle.vir_read.specs.Typing.{term_at};
 ghost use Rattle.vir_read.specs.Spelling.{Spells};
 ghost use Rattle.vir_read.specs.Pieces.{SayAll, term_pieces, OpensNothing, with_tokens};
 ghost use Rattle.vir_read.specs.Printed.{part_length, is_name, definition_text, IsRead, IsDefinition};
@@ -33,7 +34,7 @@ pub fn pieces_are_read()
 /// A tree that spells a term stands for that term, whatever names are defined.
 pub fn spelled_terms_are_typed()
     ensures { (text : List ℕ) (names : Names) (t : Tree) (raw : RawTree) (level : ℕ) → Spells text t raw → IsInRange t
-        → level + nesting t ≤ nesting_limit + 1 → typed text names raw level ≡ Ok t }
+        → level + nesting t ≤ nesting_limit + 1 → term_at text names raw level ≡ Ok t }
 {}
 
 /// A printed term is read as itself wherever it stands in a text: in a rule file and in a certificate. It is enough
@@ -57,4 +58,14 @@ pub fn printed_definitions_are_read()
 /// too long for a rule file.
 pub fn printed_terms_are_short()
     ensures { (t : Tree) → IsInRange t → length (term_text t) ≤ part_length * size t }
+{}
+
+/// The limits of a rule text: so many signs unclosed at a time, levels of composition, modules and compositions, and
+/// the greatest numbers of alternatives and in a fixed order.
+pub fn limits_are_these()
+    ensures signs { unclosed_limit ≡ 80 }
+    ensures levels { nesting_limit ≡ 64 }
+    ensures size { size_limit ≡ 200 }
+    ensures count { count_limit ≡ 1000000 }
+    ensures member { member_limit ≡ 1024 }
 {}

@@ -14,6 +14,7 @@ mod built;
 mod built_in;
 mod laws;
 mod names;
+mod next_token;
 mod raw;
 mod symbol;
 mod text_fault;
@@ -25,10 +26,11 @@ mod typing;
 pub use arguments::{count_of, is_known, span};
 pub use built_in::{BuiltIn, Eliminator, Ordered, Pair, Plain, built_in_named};
 pub use laws::{
-    pieces_are_read, printed_definitions_are_read, printed_terms_are_read, printed_terms_are_short,
-    spelled_terms_are_typed, terms_are_pieces,
+    limits_are_these, pieces_are_read, printed_definitions_are_read, printed_terms_are_read,
+    printed_terms_are_short, spelled_terms_are_typed, terms_are_pieces,
 };
 pub use names::Names;
+pub use next_token::{front, read_symbol, unexpected};
 pub use raw::{Raw, RawList};
 pub use symbol::Symbol;
 pub use text_fault::{TextError, TextFault, TextKind};

@@ -1,3 +1,4 @@
+// The names that are defined.
 ghost use Rattle.std.specs.Prelude.{◌≡◌, option_map};
 ghost use Rattle.vir_term.specs.Tree.{tree};
 ghost use Rattle.vir_read.specs.Arguments.{Names};

@@ -1,4 +1,5 @@
-ghost use Rattle.std.specs.Prelude.{◌≡◌, length, slice_get, [], ◌∷◌, ◌++◌, OnOk, OnErr, option_map};
+// The trees of a text, before it is known what they stand for.
+ghost use Rattle.std.specs.Prelude.{◌≡◌, ◌==◌, length, slice_get, [], ◌∷◌, ◌++◌, OnOk, OnErr, option_map};
 ghost use Rattle.vir_read.specs.RawTrees.{raw_tree, listed};
 
 use std::alloc::{AllocError, Global};
@@ -57,6 +58,13 @@ impl RawList {
         ensures { result ≡ length (listed self.now) }
     {
         self.trees.len()
+    }
+
+    /// Whether there are none.
+    pub fn is_empty(&self) -> bool
+        ensures { result ≡ (length (listed self.now) == 0) }
+    {
+        self.trees.is_empty()
     }
 
     /// The tree at an index, the first one at 0; none exactly where the index isn't below the length.

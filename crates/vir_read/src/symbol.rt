@@ -1,5 +1,6 @@
+// What tokens are to the grammar.
 ghost use Rattle.std.specs.Prelude.{◌≡◌};
-ghost use Rattle.vir_read.specs.Symbols.{sign_symbol, symbol};
+ghost use Rattle.vir_read.specs.Symbols.{is_same, sign_symbol, symbol};
 
 use crate::token::{Token, TokenKind};
 
@@ -29,6 +30,15 @@ fn sign_symbol(b: u8) -> Symbol
         b',' => Symbol::Comma,
         b';' => Symbol::Semicolon,
         _ => Symbol::Equals,
+    }
+}
+
+impl Symbol {
+    // Whether it is this one.
+    pub(crate) fn is(self, wanted: Symbol) -> bool
+        ensures { result ≡ is_same wanted self }
+    {
+        self == wanted
     }
 }
 

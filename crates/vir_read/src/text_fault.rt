@@ -1,3 +1,4 @@
+// What is wrong with a text, and where.
 ghost use Rattle.std.specs.Prelude.{◌≡◌};
 ghost use Rattle.vir_read.specs.Kinds.{kind_name};
 ghost use Rattle.vir_read.specs.Faults.{fault};

@@ -1,3 +1,4 @@
+// Tokens of a text.
 /// What sort of token it is.
 #[derive(Clone, Copy, Debug, PartialEq, Eq)]
 pub enum TokenKind {

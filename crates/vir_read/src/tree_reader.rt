@@ -1,3 +1,4 @@
+// Trees of a list of tokens, read from the left.
 ghost use Rattle.std.specs.Prelude.{◌≡◌, ◌+◌, ◌<◌, ◌≤◌, length, drop, slice_get, option_map, Err, Some, IfOk};
 ghost use Rattle.std.specs.Bool.{MatchBool, OnTrue};
 ghost use Rattle.vir_read.specs.declared.symbol.Symbol.TheVariants.{OpenBracket};

@@ -1,17 +1,18 @@
 // The term that a tree stands for.
-ghost use Rattle.std.specs.Prelude.{◌≡◌, ◌≤◌, ◌+◌, [], length, IsTrue, IfOk};
+ghost use Rattle.std.specs.Prelude.{ℕ, ◌≡◌, ◌≤◌, ◌+◌, [], length, IsTrue, IfOk};
 ghost use Rattle.vir_term.specs.Tree.{tree};
 ghost use Rattle.vir_term.specs.Limits.{nesting_limit, IsWithinLimits};
 ghost use Rattle.vir_read.specs.Faults.{Gives};
 ghost use Rattle.vir_read.specs.RawTrees.{raw_tree, listed, gathered};
 ghost use Rattle.vir_read.specs.BuiltIns.{built_in_named, takes};
-ghost use Rattle.vir_read.specs.Arguments.{AreWithinLimits};
+ghost use Rattle.vir_read.specs.Arguments.{AreWithinLimits, Names};
 ghost use Rattle.vir_read.specs.Typing as typing;
-ghost use Rattle.vir_read.specs.Typing.{composed, arguments_of, built_in, defined, word_typed, typed, term_of, first_place};
+ghost use Rattle.vir_read.specs.Typing.{composition_of, arguments_of, built_in_term, defined_term};
+ghost use Rattle.vir_read.specs.Typing.{word_term, term_at, term_of, first_place};
 ghost use Rattle.vir_read.specs.Built.{Builds};
 
-use crate::arguments::{count_of, order_of, score_of, span};
-use crate::built::{Built, leaf_built, loop_built, one, pair_built, rev_built, two};
+use crate::arguments::{count_of, order_of, score_argument, span};
+use crate::built::{Built, build_leaf, build_loop, build_pair, build_rev, one, two};
 use crate::built_in::{BuiltIn, Eliminator, LoopEnd, Ordered, Pair, Plain, built_in_named};
 use crate::names::Names;
 use crate::raw::{Raw, RawList};
@@ -60,59 +61,48 @@ fn no_order(alloc: Global) -> FixedOrder
 }
 
 // A module with a number and, if wanted, a fixed order.
-fn ordered_built<M: Names>(
+fn build_ordered(
     alloc: Global,
     text: &[u8],
     ordered: Ordered,
     parts: &RawList,
-    names: &M,
-    level: u32,
-    at: usize,
 ) -> Result<Built, TextError>
     requires { IsTrue (takes (BuiltIn.Ordered ordered) (length (listed parts.now))) }
-    ensures { Builds result (composed text.now (M.meaning names.now) at level (BuiltIn.Ordered ordered) (arguments_of text.now (M.meaning names.now) (gathered (listed parts.now)))) }
+    ensures { (names : Names) (at level : ℕ) → Builds result (composition_of text.now names at level
+        (BuiltIn.Ordered ordered) (arguments_of text.now names (gathered (listed parts.now)))) }
 {
     if let Some(k) = one(parts) {
-        return match count_of(text, k) {
-            Ok(k) => leaf_built(ordered_leaf(ordered, k, no_order(alloc))),
-            Err(e) => Err(e),
-        };
+        let k = count_of(text, k)?;
+        return build_leaf(ordered_leaf(ordered, k, no_order(alloc)));
     }
-    match two(parts) {
-        Some((k, order)) => match count_of(text, k) {
-            Ok(k) => match order_of(alloc, text, order) {
-                Ok(order) => leaf_built(ordered_leaf(ordered, k, order)),
-                Err(e) => Err(e),
-            },
-            Err(e) => Err(e),
-        },
-        None => unreachable!(),
-    }
+    let Some((k, order)) = two(parts) else {
+        unreachable!()
+    };
+    let k = count_of(text, k)?;
+    let order = order_of(alloc, text, order)?;
+    build_leaf(ordered_leaf(ordered, k, order))
 }
 
 // A module with a score.
-fn eliminator_built<M: Names>(
+fn build_eliminator<M: Names>(
     text: &[u8],
     eliminator: Eliminator,
     parts: &RawList,
     names: &M,
-    level: u32,
-    at: usize,
 ) -> Result<Built, TextError>
     requires { length (listed parts.now) ≡ 1 }
-    ensures { Builds result (composed text.now (M.meaning names.now) at level (BuiltIn.Eliminator eliminator) (arguments_of text.now (M.meaning names.now) (gathered (listed parts.now)))) }
+    ensures { (at level : ℕ) → Builds result (composition_of text.now (M.meaning names.now) at level
+        (BuiltIn.Eliminator eliminator) (arguments_of text.now (M.meaning names.now) (gathered (listed parts.now)))) }
 {
-    match one(parts) {
-        Some(score) => match score_of(text, names, score) {
-            Ok(score) => leaf_built(eliminator_leaf(eliminator, score)),
-            Err(e) => Err(e),
-        },
-        None => unreachable!(),
-    }
+    let Some(score) = one(parts) else {
+        unreachable!()
+    };
+    let score = score_argument(text, names, score)?;
+    build_leaf(eliminator_leaf(eliminator, score))
 }
 
 // The term of a defined name.
-fn defined_built<M: Names>(
+fn copy_defined<M: Names>(
     alloc: Global,
     name: &[u8],
     count: usize,
@@ -122,7 +112,7 @@ fn defined_built<M: Names>(
 ) -> Result<Built, TextError>
     requires level { level ≤ nesting_limit + 1 }
     requires names { AreWithinLimits (M.meaning names.now) }
-    ensures { Builds result (defined at level count (M.meaning names.now name.now)) }
+    ensures { Builds result (defined_term at level count (M.meaning names.now name.now)) }
 {
     match names.find(name) {
         None => Err(TextError::fault(TextKind::UnknownName, at)),
@@ -143,114 +133,102 @@ fn defined_built<M: Names>(
 }
 
 #[cycle(typing)]
-fn rev_of<M: Names>(
+fn build_rev_of<M: Names>(
     alloc: Global,
     text: &[u8],
     parts: &RawList,
     names: &M,
     level: u32,
-    at: usize,
 ) -> Result<Built, TextError>
     requires one { length (listed parts.now) ≡ 1 }
     requires level { level ≤ nesting_limit }
     requires names { AreWithinLimits (M.meaning names.now) }
-    ensures { Builds result (composed text.now (M.meaning names.now) at level BuiltIn.Rev (arguments_of text.now (M.meaning names.now) (gathered (listed parts.now)))) }
+    ensures { (at : ℕ) → Builds result (composition_of text.now (M.meaning names.now) at level BuiltIn.Rev
+        (arguments_of text.now (M.meaning names.now) (gathered (listed parts.now)))) }
 {
-    match one(parts) {
-        Some(part) => match typed(alloc, text, part, names, level + 1) {
-            Ok(part) => rev_built(alloc, part),
-            Err(e) => Err(e),
-        },
-        None => unreachable!(),
-    }
+    let Some(part) = one(parts) else {
+        unreachable!()
+    };
+    let part = build_term(alloc, text, part, names, level + 1)?;
+    build_rev(alloc, part)
 }
 
 #[cycle(typing)]
-fn loop_of<M: Names>(
+fn build_loop_of<M: Names>(
     alloc: Global,
     text: &[u8],
     end: LoopEnd,
     parts: &RawList,
     names: &M,
     level: u32,
-    at: usize,
 ) -> Result<Built, TextError>
     requires two { length (listed parts.now) ≡ 2 }
     requires level { level ≤ nesting_limit }
     requires names { AreWithinLimits (M.meaning names.now) }
-    ensures { Builds result (composed text.now (M.meaning names.now) at level (BuiltIn.Loop end) (arguments_of text.now (M.meaning names.now) (gathered (listed parts.now)))) }
+    ensures { (at : ℕ) → Builds result (composition_of text.now (M.meaning names.now) at level (BuiltIn.Loop end)
+        (arguments_of text.now (M.meaning names.now) (gathered (listed parts.now)))) }
 {
-    match two(parts) {
-        Some((k, body)) => match count_of(text, k) {
-            Ok(k) => match typed(alloc, text, body, names, level + 1) {
-                Ok(body) => loop_built(alloc, end, k, body),
-                Err(e) => Err(e),
-            },
-            Err(e) => Err(e),
-        },
-        None => unreachable!(),
-    }
+    let Some((k, body)) = two(parts) else {
+        unreachable!()
+    };
+    let k = count_of(text, k)?;
+    let body = build_term(alloc, text, body, names, level + 1)?;
+    build_loop(alloc, end, k, body)
 }
 
 #[cycle(typing)]
-fn pair_of<M: Names>(
+fn build_pair_of<M: Names>(
     alloc: Global,
     text: &[u8],
     pair: Pair,
     parts: &RawList,
     names: &M,
     level: u32,
-    at: usize,
 ) -> Result<Built, TextError>
     requires two { length (listed parts.now) ≡ 2 }
     requires level { level ≤ nesting_limit }
     requires names { AreWithinLimits (M.meaning names.now) }
-    ensures { Builds result (composed text.now (M.meaning names.now) at level (BuiltIn.Pair pair) (arguments_of text.now (M.meaning names.now) (gathered (listed parts.now)))) }
+    ensures { (at : ℕ) → Builds result (composition_of text.now (M.meaning names.now) at level (BuiltIn.Pair pair)
+        (arguments_of text.now (M.meaning names.now) (gathered (listed parts.now)))) }
 {
-    match two(parts) {
-        Some((first, second)) => match typed(alloc, text, first, names, level + 1) {
-            Ok(first) => match typed(alloc, text, second, names, level + 1) {
-                Ok(second) => pair_built(alloc, pair, first, second),
-                Err(e) => Err(e),
-            },
-            Err(e) => Err(e),
-        },
-        None => unreachable!(),
-    }
+    let Some((first, second)) = two(parts) else {
+        unreachable!()
+    };
+    let first = build_term(alloc, text, first, names, level + 1)?;
+    let second = build_term(alloc, text, second, names, level + 1)?;
+    build_pair(alloc, pair, first, second)
 }
 
 // A built-in word with as many arguments as it takes, which is not too deep.
 #[cycle(typing)]
-fn composed<M: Names>(
+fn build_composition<M: Names>(
     alloc: Global,
     text: &[u8],
     word: BuiltIn,
     parts: &RawList,
     names: &M,
     level: u32,
-    at: usize,
 ) -> Result<Built, TextError>
     requires takes { IsTrue (takes word (length (listed parts.now))) }
     requires level { level ≤ nesting_limit }
     requires names { AreWithinLimits (M.meaning names.now) }
-    ensures { Builds result (composed text.now (M.meaning names.now) at level word (arguments_of text.now (M.meaning names.now) (gathered (listed parts.now)))) }
+    ensures { (at : ℕ) → Builds result (composition_of text.now (M.meaning names.now) at level word
+        (arguments_of text.now (M.meaning names.now) (gathered (listed parts.now)))) }
 {
     match word {
-        BuiltIn::Plain(plain) => leaf_built(plain_leaf(plain)),
-        BuiltIn::Ordered(ordered) => ordered_built(alloc, text, ordered, parts, names, level, at),
-        BuiltIn::Eliminator(eliminator) => {
-            eliminator_built(text, eliminator, parts, names, level, at)
-        }
-        BuiltIn::Rev => rev_of(alloc, text, parts, names, level, at),
-        BuiltIn::Pair(pair) => pair_of(alloc, text, pair, parts, names, level, at),
-        BuiltIn::Loop(end) => loop_of(alloc, text, end, parts, names, level, at),
+        BuiltIn::Plain(plain) => build_leaf(plain_leaf(plain)),
+        BuiltIn::Ordered(ordered) => build_ordered(alloc, text, ordered, parts),
+        BuiltIn::Eliminator(eliminator) => build_eliminator(text, eliminator, parts, names),
+        BuiltIn::Rev => build_rev_of(alloc, text, parts, names, level),
+        BuiltIn::Pair(pair) => build_pair_of(alloc, text, pair, parts, names, level),
+        BuiltIn::Loop(end) => build_loop_of(alloc, text, end, parts, names, level),
         BuiltIn::OnlyScore(_) => unreachable!(),
     }
 }
 
 #[cycle(typing)]
 #[tactic(auto, using(crate::proofs::TypingLemmas::length_arguments_of))]
-fn built_in<M: Names>(
+fn build_built_in<M: Names>(
     alloc: Global,
     text: &[u8],
     word: BuiltIn,
@@ -261,7 +239,7 @@ fn built_in<M: Names>(
 ) -> Result<Built, TextError>
     requires level { level ≤ nesting_limit + 1 }
     requires names { AreWithinLimits (M.meaning names.now) }
-    ensures { Builds result (built_in text.now (M.meaning names.now) at level word (arguments_of text.now (M.meaning names.now) (gathered (listed parts.now)))) }
+    ensures { Builds result (built_in_term text.now (M.meaning names.now) at level word (arguments_of text.now (M.meaning names.now) (gathered (listed parts.now)))) }
 {
     if word.is_only_score() {
         return Err(TextError::fault(TextKind::WrongSort, at));
@@ -272,12 +250,12 @@ fn built_in<M: Names>(
     if level > NESTING_LIMIT {
         return Err(TextError::fault(TextKind::TooDeep, at));
     }
-    composed(alloc, text, word, parts, names, level, at)
+    build_composition(alloc, text, word, parts, names, level)
 }
 
 #[cycle(typing)]
 #[tactic(auto, using(crate::proofs::TypingLemmas::length_arguments_of))]
-fn word_typed<M: Names>(
+fn build_word<M: Names>(
     alloc: Global,
     text: &[u8],
     name: &[u8],
@@ -288,17 +266,17 @@ fn word_typed<M: Names>(
 ) -> Result<Built, TextError>
     requires level { level ≤ nesting_limit + 1 }
     requires names { AreWithinLimits (M.meaning names.now) }
-    ensures { Builds result (word_typed text.now (M.meaning names.now) at level name.now (arguments_of text.now (M.meaning names.now) (gathered (listed parts.now))) (built_in_named name.now)) }
+    ensures { Builds result (word_term text.now (M.meaning names.now) at level name.now (arguments_of text.now (M.meaning names.now) (gathered (listed parts.now))) (built_in_named name.now)) }
 {
     match built_in_named(name) {
-        Some(word) => built_in(alloc, text, word, parts, names, level, at),
-        None => defined_built(alloc, name, parts.len(), names, level, at),
+        Some(word) => build_built_in(alloc, text, word, parts, names, level, at),
+        None => copy_defined(alloc, name, parts.len(), names, level, at),
     }
 }
 
 // What is kept of the term of a tree, where a term is wanted at a level of nesting.
 #[cycle(typing)]
-fn typed<M: Names>(
+fn build_term<M: Names>(
     alloc: Global,
     text: &[u8],
     raw: &Raw,
@@ -307,12 +285,12 @@ fn typed<M: Names>(
 ) -> Result<Built, TextError>
     requires level { level ≤ nesting_limit + 1 }
     requires names { AreWithinLimits (M.meaning names.now) }
-    ensures { Builds result (typed text.now (M.meaning names.now) (raw_tree raw.now) level) }
+    ensures { Builds result (term_at text.now (M.meaning names.now) (raw_tree raw.now) level) }
 {
     match raw {
         Raw::Number { start, .. } => Err(TextError::fault(TextKind::WrongSort, *start)),
         Raw::List { start, .. } => Err(TextError::fault(TextKind::WrongSort, *start)),
-        Raw::Word { start, end, parts } => word_typed(
+        Raw::Word { start, end, parts } => build_word(
             alloc,
             text,
             span(text, *start, *end),
@@ -325,7 +303,7 @@ fn typed<M: Names>(
 }
 
 // The term of a tree, without a word on its limits.
-fn judged<M: Names>(
+fn term_in_size<M: Names>(
     alloc: Global,
     text: &[u8],
     raw: &Raw,
@@ -335,7 +313,7 @@ fn judged<M: Names>(
     requires { AreWithinLimits (M.meaning names.now) }
     ensures { Gives tree result (term_of text.now (M.meaning names.now) at (raw_tree raw.now)) }
 {
-    match typed(alloc, text, raw, names, 1) {
+    match build_term(alloc, text, raw, names, 1) {
         Ok(Built::Small { term, .. }) => Ok(term),
         Ok(Built::Large) => Err(TextError::fault(TextKind::TooLarge, at)),
         Err(e) => Err(e),
@@ -355,7 +333,7 @@ pub fn type_term_at<M: Names>(
     ensures meant { Gives tree result (term_of text.now (M.meaning names.now) at (raw_tree raw.now)) }
     ensures within { IfOk result (λ term. IsWithinLimits (tree term)) }
 {
-    judged(alloc, text, raw, names, at)
+    term_in_size(alloc, text, raw, names, at)
 }
 
 fn first_place(raw: &Raw) -> usize

@@ -1,7 +1,7 @@
 // The laws of the language can be called.
 use vir_book::{printed_books_are_read, printed_rules_are_read, rules_are_within_limits};
 use vir_read::{
-    pieces_are_read, printed_definitions_are_read, printed_terms_are_read, printed_terms_are_short,
+    limits_are_these, pieces_are_read, printed_definitions_are_read, printed_terms_are_read, printed_terms_are_short,
     spelled_terms_are_typed, terms_are_pieces,
 };
 
@@ -13,6 +13,7 @@ fn laws_can_be_called() {
     printed_terms_are_read();
     printed_definitions_are_read();
     printed_terms_are_short();
+    limits_are_these();
 }
 
 #[test]

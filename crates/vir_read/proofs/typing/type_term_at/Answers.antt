@@ -16,4 +16,4 @@ accepted (Err e) meant h within = tt
 pub returns-clause-within : goal.returns-clause-within
 returns-clause-within g c =
     let names = g.M.Names.meaning c.args.names.now in
-    accepted c.judged.result _ c.judged.ensures (term_of_within c.args.text.now names c.requires c.args.at (raw_tree c.args.raw.now))
+    accepted c.term_in_size.result _ c.term_in_size.ensures (term_of_within c.args.text.now names c.requires c.args.at (raw_tree c.args.raw.now))
