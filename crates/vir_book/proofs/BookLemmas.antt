@@ -1,4 +1,4 @@
--- Laws of the tokens left, and of names and their limits.
+-- Laws of names and their limits.
 use Rattle.std.proofs.Common.{◌≡◌, ℕ, zero, suc, ◌+◌, ◌-◌, Bool, true, false, ◌||◌, List, [], ◌∷◌, ◌++◌, drop, length, slice_get, Option, Some, None, Ok, is_some, option_map, if◌then◌else◌, refl, sym, ap, ◌∙◌, arith, subst, add-one}
 use Rattle.std.specs.Str.{bytes_eq}
 use Rattle.vir_term.specs.Tree.{Tree}
@@ -6,17 +6,6 @@ use Rattle.vir_term.specs.Limits.{IsWithinLimits}
 use Rattle.vir_read.specs.BuiltIns.{built_in_named}
 use Rattle.vir_read.specs.Arguments.{AreWithinLimits, is_known}
 use Rattle.vir_book.specs.Books.{Entry, lookup, last_term, AllWithinLimits}
-
-pub drop_here : {A : Type 0} (xs : List A) (i : ℕ) (x : A) → slice_get xs i ≡ Some x → drop i xs ≡ x ∷ drop (i + 1) xs
-drop_here [] i x h = cc
-drop_here (y ∷ ys) zero x h = cc
-drop_here (y ∷ ys) (suc i) x h = rw (add-one (suc i)) (rw add-one at (drop_here ys i x h))
-
-pub drop_gone : {A : Type 0} (xs : List A) (i : ℕ) → slice_get xs i ≡ None → drop i xs ≡ []
-drop_gone [] zero h = refl
-drop_gone [] (suc i) h = refl
-drop_gone (y ∷ ys) zero h = cc
-drop_gone (y ∷ ys) (suc i) h = drop_gone ys i h
 
 some_some : {A : Type 0} (x y : A) → Some x ≡ Some y → x ≡ y
 some_some x y h = cc

@@ -1,12 +1,8 @@
 -- Any number of definitions that isn't below that of the tokens is enough.
-use Rattle.std.proofs.Common.{◌≡◌, ℕ, zero, suc, ◌≤◌, List, [], ◌∷◌, length, Result, Ok, Err, refl, arith}
+use Rattle.std.proofs.Common.{◌≡◌, ℕ, zero, suc, ◌≤◌, List, [], ◌∷◌, length, Ok, Err, refl, arith}
 use Rattle.vir_read.specs.declared.token.Token.{Token}
-use Rattle.vir_read.specs.declared.text_fault.TextError.{TextError}
-use Rattle.vir_read.specs.Faults.{OrFault, ◌>>=◌, Gives}
-use Rattle.vir_read.proofs.TypingLemmas.{gives_as}
-use Rattle.vir_book.specs.declared.entries.Entries.{Entries}
+use Rattle.vir_read.specs.Faults.{OrFault, ◌>>=◌}
 use Rattle.vir_book.specs.Books.{Entry, definition_of, with_definition, entries_of}
-use Rattle.vir_book.specs.Entries.{entries}
 use Rattle.vir_book.proofs.ShorterLemmas.{definition_of-leaves}
 
 next_same : {A B : Type 0} (r : OrFault A) (f g : A → OrFault B) → ((x : A) → r ≡ Ok x → f x ≡ g x) → (r >>= f) ≡ (r >>= g)
@@ -23,8 +19,3 @@ entries_of-enough (suc n) (suc m) text before [] h k = refl
 entries_of-enough (suc n) (suc m) text before (t ∷ rest) h k =
     next_same (definition_of text (t ∷ rest)) _ _ (λ d e. next_same (with_definition text before d.0) _ _
     (λ after _. let l = definition_of-leaves text t rest d e in entries_of-enough n m text after d.1 (omega arith) (omega arith)))
-
-pub gives-enough : (result : Result Entries TextError) (text : List ℕ) (tokens : List Token) (most : ℕ) → length tokens ≤ most
-    → Gives entries result (entries_of (length tokens) text [] tokens) → Gives entries result (entries_of most text [] tokens)
-gives-enough result text tokens most h k =
-    gives_as entries result _ _ (entries_of-enough most (length tokens) text [] tokens h (omega arith)) k

@@ -9,8 +9,8 @@ use Rattle.vir_term.specs.declared.leaf.Leaf.TheVariants.{Elect, Defer, PassFirs
 use Rattle.vir_term.specs.Orders.{order_fault}
 use Rattle.vir_term.specs.Tree.{Tree, leaf, rev, seq, par, loop, number_of}
 use Rattle.vir_term.specs.Limits.{IsCount, IsOfFirst, IsLeafInRange, IsInRange, IsWithinLimits}
-use Rattle.vir_book.specs.Books.{Entry, AllWithinLimits}
-use Rattle.vir_book.proofs.BookLemmas.{last-within}
+use Rattle.vir_book.specs.Books.{Entry, AllWithinLimits, lookup}
+use Rattle.vir_book.proofs.BookLemmas.{last-within, lookup_within}
 
 some_false : {X : Type 0} (x : X) → is_some (Some x) ≡ false → Some x ≡ None
 some_false x h = cc
@@ -61,3 +61,7 @@ IsWithinLimits-prop t a b = λ i. record { small = le_prop a.small b.small i; fl
 -- so that of the last one is had from what a book keeps
 pub last-within-kept : (list : List Entry) (n : ℕ) (t : Tree) → ∥ AllWithinLimits list ∥₁ → Some t ≡ option_map (λ e. e.term) (slice_get list n) → IsWithinLimits t
 last-within-kept list n t kept h = ∥∥₁_elim kept (IsWithinLimits-prop t) (λ within. last-within list n t within h)
+
+-- and so is that of the term of each name
+pub lookup-within-kept : (list : List Entry) (name : List ℕ) (t : Tree) → ∥ AllWithinLimits list ∥₁ → lookup list name ≡ Some t → IsWithinLimits t
+lookup-within-kept list name t kept h = ∥∥₁_elim kept (IsWithinLimits-prop t) (λ within. lookup_within list within name t h)

@@ -18,7 +18,7 @@ use Rattle.vir_read.proofs.RoundTripTrees.{said_twice, said_first, symbol-word, 
 use Rattle.vir_read.proofs.RoundTripTokens.{is_name-parts, AreApart, are_apart-append, apart-term, pieces_text, pieces_text-append, text-term}
 use Rattle.vir_read.proofs.RoundTripWhole.{read-said, tokens_of-pieces}
 use Rattle.vir_read.proofs.RoundTripLengths.{length-term_text}
-use Rattle.vir_book.specs.Books.{Entry, entry, lookup, definition_of, with_definition, entries_of, text_limit, filled, book_of}
+use Rattle.vir_book.specs.Books.{Entry, entry, lookup, definition_of, with_definition, entries_of, rule_file_limit, filled, book_of}
 use Rattle.vir_book.specs.Printed.{book_text, AreDefinable, name_limit}
 
 -- ---- pieces
@@ -78,20 +78,20 @@ module _ (text : List ℕ) where
 
 -- ---- rule files
 
-not_too_long : (n : ℕ) → n ≤ text_limit → nat_lt text_limit n ≡ false
+not_too_long : (n : ℕ) → n ≤ rule_file_limit → nat_lt rule_file_limit n ≡ false
 not_too_long n h = grind (arith, nat_tests)
 
-pub book_of-text : (e : Entry) (rest : List Entry) → AreDefinable [] (e ∷ rest) → length (book_text (e ∷ rest)) ≤ text_limit → book_of (book_text (e ∷ rest)) ≡ Ok (e ∷ rest)
+pub book_of-text : (e : Entry) (rest : List Entry) → AreDefinable [] (e ∷ rest) → length (book_text (e ∷ rest)) ≤ rule_file_limit → book_of (book_text (e ∷ rest)) ≡ Ok (e ∷ rest)
 book_of-text e rest h short =
     let list = e ∷ rest in
     let text = book_text list in
     let found = tokens_of-pieces text (book_pieces list) (apart-book [] list h) (text-book list) in
-    ap (λ b. if b then Err (fault TextTooLong text_limit) else (tokens_of text >>= λ tokens. entries_of (length tokens) text [] tokens >>= filled)) (not_too_long (length text) short)
+    ap (λ b. if b then Err (fault TextTooLong rule_file_limit) else (tokens_of text >>= λ tokens. entries_of (length tokens) text [] tokens >>= filled)) (not_too_long (length text) short)
     ∙ ap (λ r. r >>= λ tokens. entries_of (length tokens) text [] tokens >>= filled) found.2
     ∙ ap (λ r. r >>= filled) (entries_of-said text list [] (length found.0) found.0 h found.1 (omega arith))
 
 -- a rule file of one definition is short enough
-length-definition_text : (w : List ℕ) (t : Tree) → length w ≤ name_limit → IsWithinLimits t → length (definition_text w t) ≤ text_limit
+length-definition_text : (w : List ℕ) (t : Tree) → length w ≤ name_limit → IsWithinLimits t → length (definition_text w t) ≤ rule_file_limit
 length-definition_text w t short within =
     omega (arith, length-append w (61 ∷ (term_text t ++ 59 ∷ [])), length-append (term_text t) (59 ∷ []), length-term_text t within.in_range, within.small)
 

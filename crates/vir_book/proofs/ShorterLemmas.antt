@@ -1,15 +1,14 @@
 -- What is read leaves no more tokens than there were.
-use Rattle.std.proofs.Common.{◌≡◌, ℕ, zero, suc, ◌≤◌, List, [], ◌∷◌, length, Option, Some, None, Ok, Err, arith}
+use Rattle.std.proofs.Common.{◌≡◌, ℕ, zero, suc, ◌≤◌, List, [], ◌∷◌, length, Bool, true, false, if◌then◌else◌, Option, Some, None, Ok, Err, arith}
 use Rattle.std.specs.Prelude.{⊤}
 use Rattle.vir_read.specs.declared.token.Token.{Token}
 use Rattle.vir_read.specs.declared.symbol.Symbol.{Symbol}
 use Rattle.vir_read.specs.declared.symbol.Symbol.TheVariants.{Word, Number, OpenParenthesis, CloseParenthesis, OpenBracket, CloseBracket, Comma, Semicolon, Equals}
 use Rattle.vir_read.specs.Faults.{◌>>=◌}
-use Rattle.vir_read.specs.Symbols.{symbol}
+use Rattle.vir_read.specs.Symbols.{symbol, is_same}
 use Rattle.vir_read.specs.RawTrees.{RawTree, RawTrees, number}
-use Rattle.vir_read.specs.Grammar.{Read, Reads, unexpected, opened, part_then, behind_part, parts, member_then, behind_member, member_at, members, bracket_then, in_brackets, word_then, behind_word, tree_at, tree_with, tree_within, unclosed_limit, tree_of}
-use Rattle.vir_book.specs.Books.{Written, word_of, equals_of, semicolon_of, definition_of}
-use Rattle.vir_book.specs.Books as books
+use Rattle.vir_read.specs.Grammar.{Read, Reads, unexpected, symbol_of, opened, part_then, behind_part, parts, member_then, behind_member, member_at, members, bracket_then, in_brackets, word_then, behind_word, tree_at, tree_with, tree_within, unclosed_limit, tree_of}
+use Rattle.vir_book.specs.Books.{Written, definition_of}
 
 -- a value leaves at most so many tokens
 abbrev Leaves : {A : Type 0} → ℕ → Read A → Type 0
@@ -154,49 +153,20 @@ tree_within-leaves text (suc room) tokens = tree_with-leaves text (Some (tree_wi
 
 -- ---- definitions
 
-word_then'-leaves : (text : List ℕ) (t : Token) (rest : List Token) (s : Symbol) → Leaves (length rest) (books.word_then text t rest s)
-word_then'-leaves text t rest Word = omega arith
-word_then'-leaves text t rest Number = tt
-word_then'-leaves text t rest OpenParenthesis = tt
-word_then'-leaves text t rest CloseParenthesis = tt
-word_then'-leaves text t rest OpenBracket = tt
-word_then'-leaves text t rest CloseBracket = tt
-word_then'-leaves text t rest Comma = tt
-word_then'-leaves text t rest Semicolon = tt
-word_then'-leaves text t rest Equals = tt
+chosen-leaves : (b : Bool) (text : List ℕ) (t : Token) (rest : List Token)
+    → Leaves (length rest) (if b then Ok (t, rest) else unexpected text (t ∷ rest))
+chosen-leaves true text t rest = omega arith
+chosen-leaves false text t rest = tt
 
-word_of-leaves : (text : List ℕ) (t : Token) (rest : List Token) → Leaves (length rest) (word_of text (t ∷ rest))
-word_of-leaves text t rest = word_then'-leaves text t rest (symbol text t)
+-- the first token is taken
+symbol_of-takes : (text : List ℕ) (wanted : Symbol) (t : Token) (rest : List Token)
+    → Leaves (length rest) (symbol_of text wanted (t ∷ rest))
+symbol_of-takes text wanted t rest = chosen-leaves (is_same wanted (symbol text t)) text t rest
 
-equals_then-leaves : (text : List ℕ) (t : Token) (rest : List Token) (s : Symbol) → Leaves (length rest) (books.equals_then text t rest s)
-equals_then-leaves text t rest Word = tt
-equals_then-leaves text t rest Number = tt
-equals_then-leaves text t rest OpenParenthesis = tt
-equals_then-leaves text t rest CloseParenthesis = tt
-equals_then-leaves text t rest OpenBracket = tt
-equals_then-leaves text t rest CloseBracket = tt
-equals_then-leaves text t rest Comma = tt
-equals_then-leaves text t rest Semicolon = tt
-equals_then-leaves text t rest Equals = omega arith
-
-equals_of-leaves : (text : List ℕ) (tokens : List Token) → Leaves (length tokens) (equals_of text tokens)
-equals_of-leaves text [] = tt
-equals_of-leaves text (t ∷ rest) = more_left (length rest) (length (t ∷ rest)) (equals_of text (t ∷ rest)) (omega arith) (equals_then-leaves text t rest (symbol text t))
-
-semicolon_then-leaves : (text : List ℕ) (t : Token) (rest : List Token) (s : Symbol) → Leaves (length rest) (books.semicolon_then text t rest s)
-semicolon_then-leaves text t rest Word = tt
-semicolon_then-leaves text t rest Number = tt
-semicolon_then-leaves text t rest OpenParenthesis = tt
-semicolon_then-leaves text t rest CloseParenthesis = tt
-semicolon_then-leaves text t rest OpenBracket = tt
-semicolon_then-leaves text t rest CloseBracket = tt
-semicolon_then-leaves text t rest Comma = tt
-semicolon_then-leaves text t rest Semicolon = omega arith
-semicolon_then-leaves text t rest Equals = tt
-
-semicolon_of-leaves : (text : List ℕ) (tokens : List Token) → Leaves (length tokens) (semicolon_of text tokens)
-semicolon_of-leaves text [] = tt
-semicolon_of-leaves text (t ∷ rest) = more_left (length rest) (length (t ∷ rest)) (semicolon_of text (t ∷ rest)) (omega arith) (semicolon_then-leaves text t rest (symbol text t))
+symbol_of-leaves : (text : List ℕ) (wanted : Symbol) (tokens : List Token) → Leaves (length tokens) (symbol_of text wanted tokens)
+symbol_of-leaves text wanted [] = tt
+symbol_of-leaves text wanted (t ∷ rest) =
+    more_left (length rest) (length (t ∷ rest)) (symbol_of text wanted (t ∷ rest)) (omega arith) (symbol_of-takes text wanted t rest)
 
 -- what stands behind a value that leaves fewer leaves fewer
 next_leaves : {A B : Type 0} (n : ℕ) (r : Read A) (f : A × List Token → Read B) → Leaves n r → ((x : A × List Token) → Leaves (length x.1) (f x)) → Leaves n (r >>= f)
@@ -205,8 +175,8 @@ next_leaves n r f h k = then_leaves n n r f h (λ x j. more_left (length x.1) n 
 -- a definition takes at least one token
 pub definition_of-leaves : (text : List ℕ) (t : Token) (rest : List Token) (d : Written × List Token) → definition_of text (t ∷ rest) ≡ Ok d → length d.1 ≤ length rest
 definition_of-leaves text t rest d e = leaves (length rest) (definition_of text (t ∷ rest)) d
-    (next_leaves (length rest) (word_of text (t ∷ rest)) _ (word_of-leaves text t rest)
-    (λ name. next_leaves (length name.1) (equals_of text name.1) _ (equals_of-leaves text name.1)
+    (next_leaves (length rest) (symbol_of text Word (t ∷ rest)) _ (symbol_of-takes text Word t rest)
+    (λ name. next_leaves (length name.1) (symbol_of text Equals name.1) _ (symbol_of-leaves text Equals name.1)
     (λ equals. next_leaves (length equals.1) (tree_of text equals.1) _ (tree_within-leaves text unclosed_limit equals.1)
-    (λ tree. next_leaves (length tree.1) (semicolon_of text tree.1) _ (semicolon_of-leaves text tree.1) (λ end. omega arith)))))
+    (λ tree. next_leaves (length tree.1) (symbol_of text Semicolon tree.1) _ (symbol_of-leaves text Semicolon tree.1) (λ end. omega arith)))))
     e

@@ -8,7 +8,7 @@ use Rattle.vir_read.specs.declared.token.Token.{Token}
 use Rattle.vir_read.specs.Faults.{◌>>=◌}
 use Rattle.vir_read.specs.Tokens.{tokens_of}
 use Rattle.vir_read.specs.Typing.{term_of}
-use Rattle.vir_book.specs.Books.{AllWithinLimits, Entry, Written, book_of, definition_of, entries_of, entry, filled, last_term, lookup, new_term, rule_of, text_limit, with_definition}
+use Rattle.vir_book.specs.Books.{AllWithinLimits, Entry, Written, book_of, definition_of, entries_of, entry, filled, last_term, lookup, new_term, rule_of, rule_file_limit, with_definition}
 use Rattle.vir_book.proofs.BookLemmas.{lookup_within, within-append}
 
 -- behind such terms a definition gives one
@@ -34,7 +34,7 @@ filled_same (x ∷ rest) after e = ok_ok (x ∷ rest) after e
 
 book_within : (text : List ℕ) (list : List Entry) → book_of text ≡ Ok list → AllWithinLimits list
 book_within text list e =
-    let whole = guard_else (nat_lt text_limit (length text)) _ (tokens_of text >>= λ tokens. entries_of (length tokens) text [] tokens >>= filled) list e in
+    let whole = guard_else (nat_lt rule_file_limit (length text)) _ (tokens_of text >>= λ tokens. entries_of (length tokens) text [] tokens >>= filled) list e in
     let tokens = bind_ok (tokens_of text) (λ tokens. entries_of (length tokens) text [] tokens >>= filled) list whole.1 in
     let entries = bind_ok (entries_of (length tokens.0) text [] tokens.0) filled list tokens.2 in
     subst AllWithinLimits (filled_same entries.0 list entries.2) (entries_within (length tokens.0) text [] entries.0 tokens.0 tt entries.1)

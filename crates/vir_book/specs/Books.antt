@@ -4,17 +4,14 @@ use Rattle.std.specs.Str.{bytes_eq}
 use Rattle.vir_term.specs.Tree.{Tree}
 use Rattle.vir_term.specs.Limits.{IsWithinLimits}
 use Rattle.vir_read.specs.declared.token.Token.{Token}
-use Rattle.vir_read.specs.declared.symbol.Symbol.{Symbol}
 use Rattle.vir_read.specs.declared.symbol.Symbol.TheVariants.{Word, Equals, Semicolon}
 use Rattle.vir_read.specs.declared.text_fault.TextKind.TheVariants.{NameTwice, TextTooLong, EmptyBook}
 use Rattle.vir_read.specs.Faults.{OrFault, ◌>>=◌, fault}
 use Rattle.vir_read.specs.Tokens.{tokens_of}
-use Rattle.vir_read.specs.Symbols.{symbol}
 use Rattle.vir_read.specs.RawTrees.{RawTree}
-use Rattle.vir_read.specs.Grammar.{Read, unexpected, tree_of}
+use Rattle.vir_read.specs.Grammar.{Read, symbol_of, tree_of}
 use Rattle.vir_read.specs.Arguments.{Names, span, is_known}
 use Rattle.vir_read.specs.Typing.{term_of}
-use Rattle.vir_book.specs.declared.book.TheConstants.{TEXT_LIMIT}
 
 -- ---- definitions as they stand
 
@@ -23,38 +20,11 @@ pub record Written : Type 0 where
   pub name : Token
   pub tree : RawTree
 
-abbrev pub word_then : List ℕ → Token → List Token → Symbol → Read Token
-word_then text t rest Word = Ok (t, rest)
-word_then text t rest _ = unexpected text (t ∷ rest)
-
--- a word
-abbrev pub word_of : List ℕ → List Token → Read Token
-word_of text [] = unexpected text []
-word_of text (t ∷ rest) = word_then text t rest (symbol text t)
-
-abbrev pub equals_then : List ℕ → Token → List Token → Symbol → Read ⊤
-equals_then text t rest Equals = Ok (tt, rest)
-equals_then text t rest _ = unexpected text (t ∷ rest)
-
--- the sign =
-abbrev pub equals_of : List ℕ → List Token → Read ⊤
-equals_of text [] = unexpected text []
-equals_of text (t ∷ rest) = equals_then text t rest (symbol text t)
-
-abbrev pub semicolon_then : List ℕ → Token → List Token → Symbol → Read ⊤
-semicolon_then text t rest Semicolon = Ok (tt, rest)
-semicolon_then text t rest _ = unexpected text (t ∷ rest)
-
--- the sign ;
-abbrev pub semicolon_of : List ℕ → List Token → Read ⊤
-semicolon_of text [] = unexpected text []
-semicolon_of text (t ∷ rest) = semicolon_then text t rest (symbol text t)
-
 -- a definition: a word, =, a tree and ;
 abbrev pub definition_of : List ℕ → List Token → Read Written
 definition_of text tokens =
-    word_of text tokens >>= λ name. equals_of text name.1 >>= λ equals. tree_of text equals.1 >>= λ tree. semicolon_of text tree.1 >>= λ end.
-    Ok (record { name = name.0; tree = tree.0 }, end.1)
+    symbol_of text Word tokens >>= λ name. symbol_of text Equals name.1 >>= λ equals. tree_of text equals.1 >>= λ tree.
+    symbol_of text Semicolon tree.1 >>= λ end. Ok (record { name = name.0; tree = tree.0 }, end.1)
 
 -- ---- what they define
 
@@ -94,9 +64,9 @@ entries_of (suc most) text before (t ∷ rest) =
 
 -- ---- rule files
 
--- how many bytes a text may have
-abbrev pub text_limit : ℕ
-text_limit = TEXT_LIMIT
+-- how many bytes a rule file may have
+abbrev pub rule_file_limit : ℕ
+rule_file_limit = 1048576
 
 -- at least one definition
 abbrev pub filled : List Entry → OrFault (List Entry)
@@ -106,7 +76,7 @@ filled (e ∷ rest) = Ok (e ∷ rest)
 -- The entries of a rule file. Each definition has tokens of its own, so that there are no more definitions than tokens.
 abbrev pub book_of : List ℕ → OrFault (List Entry)
 book_of text =
-    if nat_lt text_limit (length text) then Err (fault TextTooLong text_limit)
+    if nat_lt rule_file_limit (length text) then Err (fault TextTooLong rule_file_limit)
     else (tokens_of text >>= λ tokens. entries_of (length tokens) text [] tokens >>= filled)
 
 -- the term that is defined last

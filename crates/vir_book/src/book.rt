@@ -15,8 +15,8 @@ use std::alloc::Global;
 use vir_read::{Names, TextError, TextKind, Token, is_known, span, tokens, type_term_at};
 use vir_term::Term;
 
-/// How many bytes a text may have.
-pub const TEXT_LIMIT: usize = 1_048_576;
+/// How many bytes a rule file may have.
+pub const RULE_FILE_LIMIT: usize = 1_048_576;
 
 /// The names of a rule file and their terms, at least one.
 #[derive(Drop)]
@@ -27,7 +27,8 @@ pub struct Book {
 impl Book {
     /// The term of a name, where it is defined.
     pub fn get(&self, name: &[u8]) -> Option<&Term>
-        ensures { option_map (λ term. tree term.now) result ≡ lookup (listing self.now) name.now }
+        ensures within { IfSome result (λ term. IsWithinLimits (tree term.now)) }
+        ensures found { option_map (λ term. tree term.now) result ≡ lookup (listing self.now) name.now }
     {
         self.filled.found.get(name)
     }
@@ -76,7 +77,7 @@ fn term_of_definition(
 }
 
 // The entries with that of a definition behind them.
-fn with_definition(
+fn add_definition(
     alloc: Global,
     text: &[u8],
     found: Entries,
@@ -88,17 +89,10 @@ fn with_definition(
 {
     let mut found = found;
     let name = span(text, definition.name.start, definition.name.end);
-    let term = match term_of_definition(alloc, text, &found, name, definition) {
-        Ok(term) => term,
-        Err(e) => return Err(e),
-    };
-    let Ok(name) = Vec::from_slice(alloc, name) else {
-        return Err(TextError::Memory);
-    };
-    match found.add(name, term) {
-        Ok(()) => Ok(found),
-        Err(_) => Err(TextError::Memory),
-    }
+    let term = term_of_definition(alloc, text, &found, name, definition)?;
+    let name = Vec::from_slice(alloc, name)?;
+    found.add(name, term)?;
+    Ok(found)
 }
 
 // The entries of the definitions that these tokens are.
@@ -116,7 +110,7 @@ fn entries_of(alloc: Global, text: &[u8], list: &[Token]) -> Result<Entries, Tex
             Ok(definition) => definition,
             Err(e) => return Err(e),
         };
-        found = match with_definition(alloc, text, found, &definition) {
+        found = match add_definition(alloc, text, found, &definition) {
             Ok(after) => after,
             Err(e) => return Err(e),
         };
@@ -125,22 +119,13 @@ fn entries_of(alloc: Global, text: &[u8], list: &[Token]) -> Result<Entries, Tex
     Ok(found)
 }
 
-// The same, and any number of definitions that is not below that of the tokens would be enough.
-fn all_entries(alloc: Global, text: &[u8], list: &[Token]) -> Result<Entries, TextError>
-    ensures exact { Gives (λ found. entries found) result (entries_of (length list.now) text.now [] list.now) }
-    ensures enough { (most : ℕ) → length list.now ≤ most → Gives (λ found. entries found) result (entries_of most text.now [] list.now) }
-    ensures within { IfOk result (λ found. AllWithinLimits (entries found)) }
-{
-    entries_of(alloc, text, list)
-}
-
 // The book of these entries.
-fn filled(found: Entries) -> Result<Book, TextError>
+fn book_of_entries(found: Entries) -> Result<Book, TextError>
     requires { AllWithinLimits (entries found) }
     ensures exact { Gives listing result (filled (entries found)) }
     ensures within { IfOk result (λ book. AreWithinLimits (lookup (listing book))) }
 {
-    if found.len() == 0 {
+    if found.is_empty() {
         return Err(TextError::fault(TextKind::EmptyBook, 0));
     }
     Ok(Book {
@@ -148,17 +133,17 @@ fn filled(found: Entries) -> Result<Book, TextError>
     })
 }
 
-/// The book of a rule file, or its first fault: of a text longer than `TEXT_LIMIT`, of a byte that belongs
+/// The book of a rule file, or its first fault: of a text longer than `RULE_FILE_LIMIT`, of a byte that belongs
 /// to no token, or of the first definition that has one. In a definition the grammar comes first, then that
 /// its name is new, then its term; that this is too large is told at the name.
 pub fn read_book(alloc: Global, text: &[u8]) -> Result<Book, TextError>
     ensures exact { Gives listing result (book_of text.now) }
     ensures within { IfOk result (λ book. AreWithinLimits (lookup (listing book))) }
 {
-    if text.len() > TEXT_LIMIT {
-        return Err(TextError::fault(TextKind::TextTooLong, TEXT_LIMIT));
+    if text.len() > RULE_FILE_LIMIT {
+        return Err(TextError::fault(TextKind::TextTooLong, RULE_FILE_LIMIT));
     }
     let list = tokens(alloc, text)?;
-    let found = all_entries(alloc, text, &list)?;
-    filled(found)
+    let found = entries_of(alloc, text, &list)?;
+    book_of_entries(found)
 }

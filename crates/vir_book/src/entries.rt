@@ -1,4 +1,5 @@
-ghost use Rattle.std.specs.Prelude.{◌≡◌, ◌-◌, ◌∷◌, [], ◌++◌, None, OnOk, option_map, length, slice_get};
+// Names and their terms.
+ghost use Rattle.std.specs.Prelude.{◌≡◌, ◌==◌, ◌-◌, ◌∷◌, [], ◌++◌, None, OnOk, option_map, length, slice_get};
 ghost use Rattle.vir_term.specs.Tree.{tree};
 ghost use Rattle.vir_book.specs.Books.{entry, lookup};
 ghost use Rattle.vir_book.specs.Entries.{entries};
@@ -27,6 +28,12 @@ impl Entries {
         ensures { result ≡ length (entries self.now) }
     {
         self.map.len()
+    }
+
+    pub fn is_empty(&self) -> bool
+        ensures { result ≡ (length (entries self.now) == 0) }
+    {
+        self.map.len() == 0
     }
 
     pub fn get(&self, name: &[u8]) -> Option<&Term>

@@ -1,3 +1,4 @@
+// Entries that are a rule file's.
 ghost use Rattle.std.specs.Prelude.{length, ◌<◌};
 ghost use Rattle.vir_book.specs.Books.{AllWithinLimits};
 ghost use Rattle.vir_book.specs.Entries.{entries};

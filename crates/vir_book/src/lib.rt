@@ -16,5 +16,8 @@ mod laws;
 #[cfg(test)]
 mod tests;
 
-pub use book::{Book, TEXT_LIMIT, read_book};
-pub use laws::{printed_books_are_read, printed_rules_are_read, rules_are_within_limits};
+pub use book::{Book, RULE_FILE_LIMIT, read_book};
+pub use laws::{
+    no_more_definitions_than_tokens, printed_books_are_read, printed_rules_are_read,
+    rule_files_are_so_long, rules_are_within_limits,
+};

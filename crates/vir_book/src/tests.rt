@@ -4,9 +4,10 @@ use std::alloc::{AllocError, Global};
 use std::process::Abort;
 use vir_read::{TextError, TextKind};
 
-// What a text is to give: its last term, printed, or its fault.
+// What a text is to give: its last term, printed, or the size of that term, or its fault.
 enum Expected {
     Last(&'static str),
+    Size(u32),
     Fault(TextKind, usize),
 }
 
@@ -24,6 +25,7 @@ const TEXTS: &[(&str, Expected)] = &[
         "r = loop(3,par(max(borda),drop(1)));",
         Expected::Last("loop(3,par(max(borda),drop(1)))"),
     ),
+    ("r = until(2,drop(2));", Expected::Last("until(2,drop(2))")),
     ("", Expected::Fault(TextKind::EmptyBook, 0)),
     ("r = elect; ?", Expected::Fault(TextKind::BadByte, 11)),
     ("r = elect", Expected::Fault(TextKind::Unexpected, 9)),
@@ -50,6 +52,10 @@ const TEXTS: &[(&str, Expected)] = &[
         Expected::Fault(TextKind::BadNumber, 9),
     ),
     (
+        "r = until(0,defer);",
+        Expected::Fault(TextKind::BadNumber, 10),
+    ),
+    (
         "r = pass(1,[2,2]);",
         Expected::Fault(TextKind::RepeatedInOrder, 14),
     ),
@@ -58,6 +64,15 @@ const TEXTS: &[(&str, Expected)] = &[
         Expected::Fault(TextKind::NameTwice, 11),
     ),
     ("elect = defer;", Expected::Fault(TextKind::NameTwice, 0)),
+    ("until = defer;", Expected::Fault(TextKind::NameTwice, 0)),
+    (
+        "a = seq(elect,elect);b = seq(a,a);c = seq(b,b);d = seq(c,c);e = seq(d,d);f = seq(e,e);r = rev(seq(seq(f,e),b));",
+        Expected::Size(200),
+    ),
+    (
+        "a = seq(elect,elect);b = seq(a,a);c = seq(b,b);d = seq(c,c);e = seq(d,d);f = seq(e,e);r = rev(rev(seq(seq(f,e),b)));",
+        Expected::Fault(TextKind::TooLarge, 86),
+    ),
     (
         "a = seq(elect,elect);b = seq(a,a);c = seq(b,b);d = seq(c,c);e = seq(d,d);f = seq(e,e);g = seq(f,f);",
         Expected::Fault(TextKind::TooLarge, 86),
@@ -74,6 +89,9 @@ fn expect(
         (Ok(book), Expected::Last(term)) => {
             let printed = book.last_rule().print(alloc)?;
             assert!(rt; printed.as_slice() == term.as_bytes(), "{text}");
+        }
+        (Ok(book), Expected::Size(size)) => {
+            assert!(rt; book.last_rule().size() == *size, "{text}");
         }
         (Err(TextError::Fault(fault)), Expected::Fault(kind, at)) => {
             assert!(rt; fault.kind == *kind && fault.at == *at, "{text}");

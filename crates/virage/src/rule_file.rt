@@ -9,7 +9,7 @@ ghost use Rattle.virage.specs.Files.{Judges, Reads};
 
 use crate::file_stop::FileStop;
 use std::alloc::Global;
-use vir_book::{TEXT_LIMIT, read_book};
+use vir_book::{RULE_FILE_LIMIT, read_book};
 use vir_outside::{ReadStop, Shelf, read_whole};
 use vir_read::{TextError, TextFault, TextKind};
 use vir_term::Term;
@@ -36,16 +36,16 @@ pub fn rule_file<S: Shelf>(
     ensures within { IfOk result (λ term. IsWithinLimits (tree term)) }
     ensures missing { Lacks (S.files shelf.old) name.now → IsErrOf result FileStop.Fault }
     ensures selected { IsErrOf result FileStop.Fault ⊎ IsTrue (S.selected shelf.new) }
-    ensures taken { TakesAtMost (S.files shelf.old) name.now (S.selected shelf.new) (S.rest shelf.new) (TEXT_LIMIT + 1) }
+    ensures taken { TakesAtMost (S.files shelf.old) name.now (S.selected shelf.new) (S.rest shelf.new) (RULE_FILE_LIMIT + 1) }
     ensures files { S.files shelf.new ≡ S.files shelf.old }
     ensures later { S.faults shelf.old ≤ S.faults shelf.new }
 {
-    match read_whole(alloc, shelf, name, TEXT_LIMIT) {
+    match read_whole(alloc, shelf, name, RULE_FILE_LIMIT) {
         Ok(text) => judged(alloc, &text),
         Err(ReadStop::Fault) => Err(FileStop::Fault),
         Err(ReadStop::TooLong) => Err(FileStop::Refused(TextFault {
             kind: TextKind::TextTooLong,
-            at: TEXT_LIMIT,
+            at: RULE_FILE_LIMIT,
         })),
         Err(ReadStop::Memory) => Err(FileStop::Memory),
     }

@@ -1,6 +1,6 @@
 use Rattle.vir_book.specs.Entries.{entries}
 use Rattle.vir_book.proofs.BookLemmas.{lookup_within}
-use Rattle.vir_book.proofs.book.filled.Goals as goal
+use Rattle.vir_book.proofs.book.book_of_entries.Goals as goal
 
 pub returns-clause-within : goal.returns-clause-within
 returns-clause-within c = lookup_within (entries c.args.found) c.requires
