@@ -14,28 +14,40 @@ mutual
   firsts_valid none [] firsts = tt
   firsts_valid none (c ∷ rest) firsts = absurd firsts
   firsts_valid (more first more_children) [] firsts = absurd firsts
-  firsts_valid (more first more_children) (c ∷ rest) firsts = (first_valid first c firsts.0, firsts_valid more_children rest firsts.1)
+  firsts_valid (more first more_children) (c ∷ rest) firsts = (
+    first_valid first c firsts.0,
+    firsts_valid more_children
+        rest firsts.1,
+  )
 
 -- claims with valid trees are derivable
 pub each_derivable : (children : RuleTrees) (needed : List Claim) → AllValid children needed → AllDerivable needed
 each_derivable none [] valid = tt
 each_derivable none (c ∷ rest) valid = absurd valid
 each_derivable (more first more_children) [] valid = absurd valid
-each_derivable (more first more_children) (c ∷ rest) valid = ((first, valid.0), each_derivable more_children rest valid.1)
+each_derivable (more first more_children) (c ∷ rest) valid = (
+  (first, valid.0),
+  each_derivable more_children rest
+      valid.1,
+)
 
 -- a rule that fails has a premise that isn't derivable
-pub failing_underived : (rule : ℕ) (c : Claim) (needed : List Claim) → premises rule c ≡ Some needed → Fails rule c → AllDerivable needed → ⊥
+pub failing_underived : (rule : ℕ) (c : Claim) (needed : List Claim) → premises rule c ≡ Some needed → Fails rule c
+    → AllDerivable needed → ⊥
 failing_underived rule c needed is fails =
-    let P : Option (List Claim) → Type 0 = λ known. MatchOption known (Unit {0}) (λ needed. AllDerivable needed → ⊥) in subst P is fails
+    let P : Option (List Claim) → Type 0 = λ known. MatchOption known (Unit {0}) (λ needed. AllDerivable needed → ⊥)
+    in subst P is fails
 
 -- the first rule that serves
-serves_first : (rule other : ℕ) (c : Claim) (needed : List Claim) → premises rule c ≡ Some needed → AllDerivable needed → ((earlier : ℕ) → earlier < other → Fails earlier c) → other ≤ rule
+serves_first : (rule other : ℕ) (c : Claim) (needed : List Claim) → premises rule c ≡ Some needed → AllDerivable needed
+    → ((earlier : ℕ) → earlier < other → Fails earlier c) → other ≤ rule
 serves_first rule other c needed is derivable fails = elim (cases_lt rule other) [
   | inl before ↦ absurd (failing_underived rule c needed is (fails rule before) derivable)
   | inr after ↦ after
 ]
 
-same_premises : (rule other : ℕ) (c : Claim) (needed wanted : List Claim) → rule ≡ other → premises rule c ≡ Some needed → premises other c ≡ Some wanted → needed ≡ wanted
+same_premises : (rule other : ℕ) (c : Claim) (needed wanted : List Claim) → rule ≡ other → premises rule c ≡ Some needed
+    → premises other c ≡ Some wanted → needed ≡ wanted
 same_premises rule other c needed wanted same is is' = cc
 
 mutual
@@ -47,7 +59,8 @@ mutual
       let after : rule ≤ other = serves_first other rule c second.0 second.1 derivable' first.2 in
       let same : rule ≡ other = omega arith in
       let wanted : first.0 ≡ second.0 = same_premises rule other c first.0 second.0 same first.1 second.1 in
-      let trees : children ≡ others = firsts_unique children others second.0 (subst (λ needed. AreFirst children needed) wanted first.3) second.3 in
+      let trees : children ≡ others = firsts_unique children others second.0 (subst (λ needed. AreFirst children needed)
+      wanted first.3) second.3 in
       cc
 
   pub firsts_unique : (ds es : RuleTrees) (needed : List Claim) → AreFirst ds needed → AreFirst es needed → ds ≡ es

@@ -1,5 +1,6 @@
 -- The texts of properties.
-use Rattle.std.proofs.Common.{rules, ◌≡◌, ◌≢◌, ℕ, ◌<◌, ◌^◌, List, ◌++◌, Some, Result, Ok, Err, decimal, sym, ◌∙◌, ap, subst, arith, append_assoc, lit<}
+use Rattle.std.proofs.Common.{rules, ◌≡◌, ◌≢◌, ℕ, ◌<◌, ◌^◌, List, ◌++◌, Some, Result, Ok, Err, decimal, sym, ◌∙◌, ap}
+use Rattle.std.proofs.Common.{subst, arith, append_assoc, lit<}
 use Rattle.std.specs.Prelude.{codes}
 use Rattle.std.specs.Str.{IsUtf8}
 use Rattle.std.specs.Str.Parse.{ParsesUnsigned}
@@ -7,7 +8,8 @@ use Rattle.std.proofs.lemmas.Fmt.{IsAscii-decimal, parse-decimal}
 use Rattle.std.proofs.lemmas.List.{append_cancel_left, append_cancel_right}
 use Rattle.std.proofs.lemmas.Str.{IsUtf8-from_ascii}
 use Rattle.vir_term.specs.declared.prop.Prop.{Prop}
-use Rattle.vir_term.specs.declared.prop.Prop.TheVariants.{Ne, Ea, El, Defers, Rejects, Elim, Nb, Decr, Dli, Imono, Dimono, Dmono, Mono, Cc, Dcc, Cprog, Ccomp, Neut}
+use Rattle.vir_term.specs.declared.prop.Prop.TheVariants.{Ne, Ea, El, Defers, Rejects, Elim, Nb, Decr, Dli, Imono}
+use Rattle.vir_term.specs.declared.prop.Prop.TheVariants.{Dimono, Dmono, Mono, Cc, Dcc, Cprog, Ccomp, Neut}
 use Rattle.vir_term.specs.Limits.{IsCount, count_limit}
 use Rattle.vir_rules.specs.declared.prop_name.PropName.TheVariants.{Alone}
 use Rattle.vir_rules.specs.Named.{IsPropInRange, prop_named}
@@ -24,7 +26,8 @@ pub utf8_decimal : (k : ℕ) (ds : List ℕ) → IsCount k → decimal k ≡ ds 
 utf8_decimal k ds h e = subst IsUtf8 e (IsUtf8-from_ascii (decimal k) (IsAscii-decimal k (count_is_small k h)))
 
 -- and are read as it
-pub parses_decimal : {E : Type 0} (k : ℕ) (ds : List ℕ) (r : Result ℕ E) → IsCount k → decimal k ≡ ds → ParsesUnsigned 32 10 ds r → r ≡ Ok k
+pub parses_decimal : {E : Type 0} (k : ℕ) (ds : List ℕ) (r : Result ℕ E) → IsCount k → decimal k ≡ ds
+    → ParsesUnsigned 32 10 ds r → r ≡ Ok k
 parses_decimal k ds r h e p = parse-decimal 32 k ds r (count_is_narrow k h) (count_is_small k h) (sym e) p
 
 pub ok_same : {E : Type 0} (m n : ℕ) → (let a : Result ℕ E = Ok m in a ≡ Ok n) → m ≡ n
@@ -35,8 +38,10 @@ not_ok r e k h j = cc
 
 -- no property has a text that is none of these
 pub no_prop : (text : List ℕ) → ((p : Prop) → prop_named text ≡ Some (Alone p) → ⊥) →
-    ((k : ℕ) → IsCount k → codes "defers(" ++ decimal k ++ codes ")" ≢ text) → ((k : ℕ) → IsCount k → codes "rejects(" ++ decimal k ++ codes ")" ≢ text) →
-    ((k : ℕ) → IsCount k → codes "elim(" ++ decimal k ++ codes ")" ≢ text) → (p : Prop) → IsPropInRange p → prop_text p ≢ text
+    ((k : ℕ) → IsCount k → codes "defers(" ++ decimal k ++ codes ")" ≢ text) → ((k : ℕ) → IsCount k → codes "rejects("
+    ++ decimal k ++ codes ")" ≢ text) →
+    ((k : ℕ) → IsCount k → codes "elim(" ++ decimal k ++ codes ")" ≢ text) → (p : Prop) → IsPropInRange p
+    → prop_text p ≢ text
 no_prop text alone defers rejects elims Ne r e = alone Ne (ap prop_named (sym e))
 no_prop text alone defers rejects elims Ea r e = alone Ea (ap prop_named (sym e))
 no_prop text alone defers rejects elims El r e = alone El (ap prop_named (sym e))
@@ -57,16 +62,20 @@ no_prop text alone defers rejects elims Ccomp r e = alone Ccomp (ap prop_named (
 no_prop text alone defers rejects elims Neut r e = alone Neut (ap prop_named (sym e))
 
 -- a text that doesn't end so is none of a number
-pub not_ended : (front rest text : List ℕ) → text ≡ front ++ rest → ((f : List ℕ) → rest ≢ f ++ codes ")") → (k : ℕ) → front ++ decimal k ++ codes ")" ≢ text
+pub not_ended : (front rest text : List ℕ) → text ≡ front ++ rest → ((f : List ℕ) → rest ≢ f ++ codes ")") → (k : ℕ)
+    → front ++ decimal k ++ codes ")" ≢ text
 not_ended front rest text e h k same =
-    h (decimal k) (append_cancel_left front rest (decimal k ++ codes ")") (sym e ∙ sym same ∙ append_assoc front (decimal k) (codes ")")))
+    h (decimal k) (append_cancel_left front rest (decimal k ++ codes ")") (sym e ∙ sym same
+    ∙ append_assoc front (decimal k) (codes ")")))
 
 -- nor is one with other digits
-pub not_counted : (front rest ds text : List ℕ) → text ≡ front ++ rest → rest ≡ ds ++ codes ")" → ((k : ℕ) → IsCount k → decimal k ≢ ds) → (k : ℕ) → IsCount k →
+pub not_counted : (front rest ds text : List ℕ) → text ≡ front ++ rest → rest ≡ ds ++ codes ")"
+    → ((k : ℕ) → IsCount k → decimal k ≢ ds) → (k : ℕ) → IsCount k →
     front ++ decimal k ++ codes ")" ≢ text
 not_counted front rest ds text e f h k is same =
     h k is (append_cancel_right (decimal k) ds (codes ")")
-    (append_cancel_left front (decimal k ++ codes ")") (ds ++ codes ")") (sym (append_assoc front (decimal k) (codes ")")) ∙ same ∙ e ∙ ap (λ r. front ++ r) f)))
+    (append_cancel_left front (decimal k ++ codes ")") (ds ++ codes ")")
+    (sym (append_assoc front (decimal k) (codes ")")) ∙ same ∙ e ∙ ap (λ r. front ++ r) f)))
 
 -- what a word names without a number has that text
 pub named_alone : (w : List ℕ) (p : Prop) → prop_named w ≡ Some (Alone p) → (prop_text p ≡ w) × IsPropInRange p

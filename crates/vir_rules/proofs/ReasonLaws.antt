@@ -1,5 +1,6 @@
 -- There is one list of reasons against a claim.
-use Rattle.std.proofs.Common.{◌≡◌, ℕ, zero, suc, ◌<◌, ◌≤◌, List, [], ◌∷◌, ◌++◌, length, take, slice_get, Option, Some, None, MatchOption, sym, ◌∙◌, ap, subst, arith, inl, inr}
+use Rattle.std.proofs.Common.{◌≡◌, ℕ, zero, suc, ◌<◌, ◌≤◌, List, [], ◌∷◌, ◌++◌, length, take, slice_get, Option, Some}
+use Rattle.std.proofs.Common.{None, MatchOption, sym, ◌∙◌, ap, subst, arith, inl, inr}
 use Rattle.std.proofs.lemmas.Bool.{cases_lt}
 use Rattle.vir_rules.specs.Claims.{Claim}
 use Rattle.vir_rules.specs.Premises.{premises}
@@ -8,20 +9,26 @@ use Rattle.vir_rules.specs.Derivations.{Derivable, AllDerivable}
 use Rattle.vir_rules.specs.Reasons.{Reason, IsFirstUnderived, IsReasonOf, AreReasonsUpTo, AreReasons}
 
 -- of derivable claims each is derivable
-pub derivable_before : (needed : List Claim) (place before : ℕ) (c : Claim) → slice_get needed place ≡ Some c → place < before → AllDerivable (take before needed) → Derivable c
+pub derivable_before : (needed : List Claim) (place before : ℕ) (c : Claim) → slice_get needed place ≡ Some c
+    → place < before → AllDerivable (take before needed) → Derivable c
 derivable_before [] place before c stands inside derivable = cc
 derivable_before (first ∷ rest) place zero c stands inside derivable = absurd (omega arith)
-derivable_before (first ∷ rest) zero (suc before) c stands inside derivable = let is : first ≡ c = cc in subst Derivable is derivable.0
-derivable_before (first ∷ rest) (suc place) (suc before) c stands inside derivable = derivable_before rest place before c stands (omega arith) derivable.1
+derivable_before (first ∷ rest) zero (suc before) c stands inside derivable = let is : first ≡ c = cc
+    in subst Derivable is derivable.0
+derivable_before (first ∷ rest) (suc place) (suc before) c stands inside derivable = derivable_before rest place before
+    c stands (omega arith) derivable.1
 
 -- no first premise that isn't derivable stands before another one
-none_before : (needed : List Claim) (number number' : ℕ) (c d : Claim) (first : IsFirstUnderived needed number c) (second : IsFirstUnderived needed number' d) → second.before ≤ first.before
+none_before : (needed : List Claim) (number number' : ℕ) (c d : Claim) (first : IsFirstUnderived needed number c)
+    (second : IsFirstUnderived needed number' d) → second.before ≤ first.before
 none_before needed number number' c d first second = elim (cases_lt first.before second.before) [
-  | inl before ↦ absurd (first.underived (derivable_before needed first.before second.before c first.stands before second.derivable))
+  | inl before ↦ absurd (first.underived (derivable_before needed first.before second.before c first.stands before
+      second.derivable))
   | inr after ↦ after
 ]
 
-one_underived : (needed : List Claim) (number number' : ℕ) (c d : Claim) → IsFirstUnderived needed number c → IsFirstUnderived needed number' d → (number ≡ number') × (c ≡ d)
+one_underived : (needed : List Claim) (number number' : ℕ) (c d : Claim) → IsFirstUnderived needed number c
+    → IsFirstUnderived needed number' d → (number ≡ number') × (c ≡ d)
 one_underived needed number number' c d first second =
     let after : second.before ≤ first.before = none_before needed number number' c d first second in
     let before : first.before ≤ second.before = none_before needed number' number d c second first in
@@ -32,7 +39,8 @@ one_underived needed number number' c d first second =
     let number_is' = second.number_is in
     (cc, cc)
 
-one_reason : (rule : ℕ) (needed : List Claim) (reason other : Reason) → IsReasonOf rule needed reason → IsReasonOf rule needed other → reason ≡ other
+one_reason : (rule : ℕ) (needed : List Claim) (reason other : Reason) → IsReasonOf rule needed reason
+    → IsReasonOf rule needed other → reason ≡ other
 one_reason rule needed reason other is is' =
     let rules : reason.rule ≡ other.rule = is.of_rule ∙ sym is'.of_rule in
     let rest = one_underived needed reason.number other.number reason.premise other.premise is.first is'.first in
@@ -41,21 +49,26 @@ one_reason rule needed reason other is is' =
 -- what the reasons up to the next rule are, by that rule's premises
 abbrev Added : ℕ → Claim → List Reason → Option (List Claim) → Type 0
 Added rule c reasons known = MatchOption known (AreReasonsUpTo rule c reasons)
-    (λ needed. (earlier : List Reason) × (last : Reason) × (reasons ≡ earlier ++ last ∷ []) × AreReasonsUpTo rule c earlier × IsReasonOf (suc rule) needed last)
+    (λ needed. (earlier : List Reason) × (last : Reason) × (reasons ≡ earlier ++ last ∷ []) × AreReasonsUpTo rule c
+    earlier × IsReasonOf (suc rule) needed last)
 
 one_list_added : (rule : ℕ) (c : Claim) (known : Option (List Claim)) (reasons others : List Reason) →
-    ((xs ys : List Reason) → AreReasonsUpTo rule c xs → AreReasonsUpTo rule c ys → xs ≡ ys) → Added rule c reasons known → Added rule c others known → reasons ≡ others
+    ((xs ys : List Reason) → AreReasonsUpTo rule c xs → AreReasonsUpTo rule c ys → xs ≡ ys) → Added rule c reasons known
+    → Added rule c others known → reasons ≡ others
 one_list_added rule c None reasons others one are are' = one reasons others are are'
 one_list_added rule c (Some needed) reasons others one are are' =
     let earlier : are.0 ≡ are'.0 = one are.0 are'.0 are.3 are'.3 in
     let last : are.1 ≡ are'.1 = one_reason (suc rule) needed are.1 are'.1 are.4 are'.4 in
     are.2 ∙ ap (λ reason. are.0 ++ reason ∷ []) last ∙ ap (λ xs. xs ++ are'.1 ∷ []) earlier ∙ sym are'.2
 
-one_list : (rule : ℕ) (c : Claim) (reasons others : List Reason) → AreReasonsUpTo rule c reasons → AreReasonsUpTo rule c others → reasons ≡ others
+one_list : (rule : ℕ) (c : Claim) (reasons others : List Reason) → AreReasonsUpTo rule c reasons → AreReasonsUpTo rule c
+    others → reasons ≡ others
 unfolding AreReasonsUpTo
 one_list zero c reasons others are are' = are ∙ sym are'
-one_list (suc rule) c reasons others are are' = one_list_added rule c (premises (suc rule) c) reasons others (one_list rule c) are are'
+one_list (suc rule) c reasons others are are' = one_list_added rule c (premises (suc rule) c) reasons others
+    (one_list rule c) are are'
 
 -- there is one list of reasons against a claim
-pub one_list_of_reasons : (c : Claim) (reasons others : List Reason) → AreReasons c reasons → AreReasons c others → reasons ≡ others
+pub one_list_of_reasons : (c : Claim) (reasons others : List Reason) → AreReasons c reasons → AreReasons c others
+    → reasons ≡ others
 one_list_of_reasons c reasons others = one_list (length table) c reasons others

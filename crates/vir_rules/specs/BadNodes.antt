@@ -25,14 +25,17 @@ or_else None next = next
 abbrev pub judged : Option (List Claim) → ℕ → (List Claim → Option BadNode) → Option BadNode
 judged None children among = Some (record { number = 0; why = RuleDoesNotFit })
 judged (Some needed) children among =
-    if nat_eq children (length needed) then after 1 (among needed) else Some (record { number = 0; why = WrongNumberOfPremises })
+    if nat_eq children (length needed) then after 1 (among needed)
+    else Some (record { number = 0; why = WrongNumberOfPremises })
 
 -- the first bad node of a tree that is to derive a claim
 abbrev mutual
   pub first_bad : RuleTree → Claim → Option BadNode
-  first_bad (node rule children) c = judged (premises rule c) (count children) (λ needed. first_bad_among children needed)
+  first_bad (node rule children) c = judged (premises rule c) (count children) (λ needed. first_bad_among children
+      needed)
 
   pub first_bad_among : RuleTrees → List Claim → Option BadNode
   first_bad_among none needed = None
   first_bad_among (more first rest) [] = None
-  first_bad_among (more first rest) (c ∷ more_needed) = or_else (first_bad first c) (after (size first) (first_bad_among rest more_needed))
+  first_bad_among (more first rest) (c ∷ more_needed) = or_else (first_bad first c)
+      (after (size first) (first_bad_among rest more_needed))

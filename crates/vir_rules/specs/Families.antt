@@ -3,9 +3,12 @@ use Rattle.std.specs.Prelude.{Bool, true, false}
 use Rattle.vir_term.specs.declared.score.Score.{Score}
 use Rattle.vir_term.specs.declared.score.Score.TheVariants.{Plurality as First, Copeland, Minimax, Condorcet}
 use Rattle.vir_term.specs.declared.leaf.LeafKind.{LeafKind}
-use Rattle.vir_term.specs.declared.leaf.LeafKind.TheVariants.{Elect, Defer, PassFirst, DropFirst, Plurality, Max, Min, Below, Upto}
+use Rattle.vir_term.specs.declared.leaf.LeafKind.TheVariants.{Elect, Defer, PassFirst, DropFirst, Plurality, Max, Min}
+use Rattle.vir_term.specs.declared.leaf.LeafKind.TheVariants.{Below, Upto}
 use Rattle.vir_rules.specs.declared.row.Family.{Family}
-use Rattle.vir_rules.specs.declared.row.Family.TheVariants.{ElectingNobody, ElectingAll, ElectingSome, KeepingSome, Dropping, Unscored, Leading, Eliminating, Winning, Progressing, Deferring, Unordered}
+use Rattle.vir_rules.specs.declared.row.Family.TheVariants.{ElectingNobody, ElectingAll, ElectingSome, KeepingSome}
+use Rattle.vir_rules.specs.declared.row.Family.TheVariants.{Dropping, Unscored, Leading, Eliminating, Winning}
+use Rattle.vir_rules.specs.declared.row.Family.TheVariants.{Progressing, Deferring, Unordered}
 
 -- whether a module eliminates by a score
 abbrev pub is_eliminator : LeafKind → Bool

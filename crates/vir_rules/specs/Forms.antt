@@ -8,7 +8,8 @@ use Rattle.vir_term.specs.Tree as tree
 use Rattle.vir_rules.specs.declared.form.Form.{Form as Borrowed}
 use Rattle.vir_rules.specs.declared.form.Form.TheVariants as borrowed
 use Rattle.vir_rules.specs.declared.row.Shape.{Shape}
-use Rattle.vir_rules.specs.declared.row.Shape.TheVariants.{Any, ModuleOf, PassK, DropK, Rev, Seq, Par, Loop, LoopK, LoopOne, Until, UntilK, UntilOne}
+use Rattle.vir_rules.specs.declared.row.Shape.TheVariants.{Any, ModuleOf, PassK, DropK, Rev, Seq, Par, Loop, LoopK}
+use Rattle.vir_rules.specs.declared.row.Shape.TheVariants.{LoopOne, Until, UntilK, UntilOne}
 use Rattle.vir_rules.specs.Families.{is_of}
 
 -- a term without its parts

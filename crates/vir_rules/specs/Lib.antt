@@ -2,6 +2,7 @@ pub mod Claims
 pub mod Props
 pub mod Families
 pub mod Forms
+pub mod Counts
 pub mod Table
 pub mod Premises
 pub mod RuleTrees

@@ -1,5 +1,6 @@
 -- Which judgements a rule fits, and which premises it then has: how the rows of the table are read.
-use Rattle.std.specs.Prelude.{ℕ, Bool, ◌&&◌, nat_eq, nat_lt, nat_le, if◌then◌else◌, List, [], ◌∷◌, map, length, Option, Some, None, is_some, option_map, slice_index_or}
+use Rattle.std.specs.Prelude.{ℕ, Bool, ◌&&◌, nat_eq, nat_lt, nat_le, if◌then◌else◌, List, [], ◌∷◌, map, length, Option}
+use Rattle.std.specs.Prelude.{Some, None, is_some, option_map, slice_index_or}
 use Rattle.std.specs.Option.{option_and_then}
 use Rattle.std.specs.Cmp.Lexicographic.{pointwise}
 use Rattle.vir_term.specs.declared.leaf.Leaf.TheVariants.{PassFirst, DropFirst}
@@ -38,7 +39,8 @@ number_in _ _ = None
 
 -- the number that k stands for, where a conclusion is this property of a term of this form
 abbrev pub number_for : Conclusion → Prop → Form → Option ℕ
-number_for (Has wanted shape) prop form = option_and_then (λ k. if is_shaped shape k form then Some k else None) (number_in wanted prop)
+number_for (Has wanted shape) prop form = option_and_then (λ k. if is_shaped shape k form then Some k else None)
+    (number_in wanted prop)
 number_for (Apart pairing) prop form = None
 
 -- the letters of a row on a term and a number

@@ -1,7 +1,8 @@
 -- Properties as the rules write and compare them.
 use Rattle.std.specs.Prelude.{ℕ, Bool, ◌&&◌, nat_eq, List, ◌++◌, codes, decimal}
 use Rattle.vir_term.specs.declared.prop.Prop.{Prop}
-use Rattle.vir_term.specs.declared.prop.Prop.TheVariants.{Ne, Ea, El, Defers, Rejects, Elim, Nb, Decr, Dli, Imono, Dimono, Dmono, Mono, Cc, Dcc, Cprog, Ccomp, Neut}
+use Rattle.vir_term.specs.declared.prop.Prop.TheVariants.{Ne, Ea, El, Defers, Rejects, Elim, Nb, Decr, Dli, Imono}
+use Rattle.vir_term.specs.declared.prop.Prop.TheVariants.{Dimono, Dmono, Mono, Cc, Dcc, Cprog, Ccomp, Neut}
 
 -- the place of a property in their order, from 1
 abbrev pub rank : Prop → ℕ
@@ -35,27 +36,34 @@ number_of _ = 0
 abbrev pub is_same : Prop → Prop → Bool
 is_same p q = nat_eq (rank p) (rank q) && nat_eq (number_of p) (number_of q)
 
+-- the name of a property, without its number
+abbrev pub prop_word : Prop → List ℕ
+prop_word Ne = codes "ne"
+prop_word Ea = codes "ea"
+prop_word El = codes "el"
+prop_word (Defers k) = codes "defers"
+prop_word (Rejects k) = codes "rejects"
+prop_word (Elim k) = codes "elim"
+prop_word Nb = codes "nb"
+prop_word Decr = codes "decr"
+prop_word Dli = codes "dli"
+prop_word Imono = codes "imono"
+prop_word Dimono = codes "dimono"
+prop_word Dmono = codes "dmono"
+prop_word Mono = codes "mono"
+prop_word Cc = codes "cc"
+prop_word Dcc = codes "dcc"
+prop_word Cprog = codes "cprog"
+prop_word Ccomp = codes "ccomp"
+prop_word Neut = codes "neut"
+
 -- a property of a number of alternatives, as a text
 abbrev pub counted_text : List ℕ → ℕ → List ℕ
 counted_text name k = name ++ codes "(" ++ decimal k ++ codes ")"
 
--- the text of a property
+-- the text of a property: its name, and its number in parentheses where it has one
 abbrev pub prop_text : Prop → List ℕ
-prop_text Ne = codes "ne"
-prop_text Ea = codes "ea"
-prop_text El = codes "el"
-prop_text (Defers k) = counted_text (codes "defers") k
-prop_text (Rejects k) = counted_text (codes "rejects") k
-prop_text (Elim k) = counted_text (codes "elim") k
-prop_text Nb = codes "nb"
-prop_text Decr = codes "decr"
-prop_text Dli = codes "dli"
-prop_text Imono = codes "imono"
-prop_text Dimono = codes "dimono"
-prop_text Dmono = codes "dmono"
-prop_text Mono = codes "mono"
-prop_text Cc = codes "cc"
-prop_text Dcc = codes "dcc"
-prop_text Cprog = codes "cprog"
-prop_text Ccomp = codes "ccomp"
-prop_text Neut = codes "neut"
+prop_text (Defers k) = counted_text (prop_word (Defers k)) k
+prop_text (Rejects k) = counted_text (prop_word (Rejects k)) k
+prop_text (Elim k) = counted_text (prop_word (Elim k)) k
+prop_text p = prop_word p

@@ -1,5 +1,6 @@
 -- Why a claim has no derivation: for each rule that fits, its first premise that has none.
-use Rattle.std.specs.Prelude.{◌≡◌, ℕ, zero, suc, ◌+◌, List, [], ◌∷◌, ◌++◌, Some, map, slice_get, take, length, MatchOption}
+use Rattle.std.specs.Prelude.{◌≡◌, ℕ, zero, suc, ◌+◌, List, [], ◌∷◌, ◌++◌, Some, map, slice_get, take, length}
+use Rattle.std.specs.Prelude.{MatchOption}
 use Rattle.vir_rules.specs.declared.why.Why.{Why}
 use Rattle.vir_rules.specs.declared.why.WhyLine.{WhyLine}
 use Rattle.vir_rules.specs.Claims.{Claim, claim}
@@ -31,7 +32,8 @@ unfoldable pub AreReasonsUpTo : ℕ → Claim → List Reason → Type 0
 AreReasonsUpTo zero c reasons = reasons ≡ []
 AreReasonsUpTo (suc rule) c reasons =
     MatchOption (premises (suc rule) c) (AreReasonsUpTo rule c reasons)
-    (λ needed. (earlier : List Reason) × (last : Reason) × (reasons ≡ earlier ++ last ∷ []) × AreReasonsUpTo rule c earlier × IsReasonOf (suc rule) needed last)
+    (λ needed. (earlier : List Reason) × (last : Reason) × (reasons ≡ earlier ++ last ∷ []) × AreReasonsUpTo rule c
+    earlier × IsReasonOf (suc rule) needed last)
 
 -- These are the reasons against a claim.
 abbrev pub AreReasons : Claim → List Reason → Type 0

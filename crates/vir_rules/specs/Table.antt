@@ -5,9 +5,16 @@ use Rattle.std.specs.Prelude.{ℕ, List, [], ◌∷◌, codes}
 use Rattle.vir_term.specs.declared.prop.Prop.TheVariants as prop
 use Rattle.vir_rules.specs.declared.row.Wanted.{Wanted}
 use Rattle.vir_rules.specs.declared.row.Wanted.TheVariants.{Is, DefersK as defers_k, RejectsK as rejects_k}
-use Rattle.vir_rules.specs.declared.row.Family.TheVariants.{ElectingNobody, ElectingAll, ElectingSome, KeepingSome, Dropping, Unscored, Leading, Eliminating, Winning, Progressing, Deferring, Unordered}
-use Rattle.vir_rules.specs.declared.row.Shape.TheVariants.{Any as any, ModuleOf as module_of, PassK as pass_k, DropK as drop_k, Rev as rev, Seq as seq, Par as par, Loop as loop, LoopK as loop_k, LoopOne as loop_1, Until as until, UntilK as until_k, UntilOne as until_1}
-use Rattle.vir_rules.specs.declared.row.Pairing.TheVariants.{PassDrop as pass_and_drop, DropPass as drop_and_pass, SeqLeft as seq_left, SeqRight as seq_right, RevLeft as rev_left, RevRight as rev_right}
+use Rattle.vir_rules.specs.declared.row.Family.TheVariants.{ElectingNobody, ElectingAll, ElectingSome, KeepingSome}
+use Rattle.vir_rules.specs.declared.row.Family.TheVariants.{Dropping, Unscored, Leading, Eliminating, Winning}
+use Rattle.vir_rules.specs.declared.row.Family.TheVariants.{Progressing, Deferring, Unordered}
+use Rattle.vir_rules.specs.declared.row.Shape.TheVariants.{Any as any, ModuleOf as module_of, PassK as pass_k}
+use Rattle.vir_rules.specs.declared.row.Shape.TheVariants.{DropK as drop_k, Rev as rev, Seq as seq, Par as par}
+use Rattle.vir_rules.specs.declared.row.Shape.TheVariants.{Loop as loop, LoopK as loop_k, LoopOne as loop_1}
+use Rattle.vir_rules.specs.declared.row.Shape.TheVariants.{Until as until, UntilK as until_k, UntilOne as until_1}
+use Rattle.vir_rules.specs.declared.row.Pairing.TheVariants.{PassDrop as pass_and_drop, DropPass as drop_and_pass}
+use Rattle.vir_rules.specs.declared.row.Pairing.TheVariants.{SeqLeft as seq_left, SeqRight as seq_right}
+use Rattle.vir_rules.specs.declared.row.Pairing.TheVariants.{RevLeft as rev_left, RevRight as rev_right}
 use Rattle.vir_rules.specs.declared.row.Conclusion.{Conclusion}
 use Rattle.vir_rules.specs.declared.row.Conclusion.TheVariants.{Has, Apart}
 use Rattle.vir_rules.specs.declared.row.Part.TheVariants.{M as m, N as n, T as t}

@@ -1,3 +1,4 @@
+// Trees of rules.
 ghost use Rattle.std.specs.Prelude.{◌≡◌, [], ◌∷◌, ◌++◌, length, slice_get, option_map, OnOk, OnErr};
 ghost use Rattle.vir_rules.specs.RuleTrees.{rule_tree, rule_trees};
 

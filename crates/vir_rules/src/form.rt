@@ -1,3 +1,4 @@
+// The outermost forms of terms.
 ghost use Rattle.std.specs.Prelude.{◌≡◌};
 ghost use Rattle.vir_term.specs.Tree.{tree};
 ghost use Rattle.vir_rules.specs.Forms.{form_of, form_seen, is_shaped};

@@ -1,3 +1,4 @@
+// What is derived.
 use vir_term::{Prop, Term};
 
 /// What a derivation concludes.

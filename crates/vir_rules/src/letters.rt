@@ -46,7 +46,7 @@ fn letters_of_pair<'a>(part: &'a Term, other: &'a Term) -> Letters<'a>
 }
 
 // The letters of a row on two terms, where they are so paired.
-fn paired<'a>(pairing: Pairing, left: &'a Term, right: &'a Term) -> Option<Letters<'a>>
+fn letters_of_paired<'a>(pairing: Pairing, left: &'a Term, right: &'a Term) -> Option<Letters<'a>>
     ensures { option_map letters_seen result ≡ paired pairing (tree left.now) (tree right.now) }
 {
     match (pairing, left, right) {
@@ -81,7 +81,7 @@ pub(crate) fn letters_in<'a>(
             Some(letters_of(term, k))
         }
         (Conclusion::Apart(pairing), Judgement::Disj { left, right }) => {
-            paired(pairing, left, right)
+            letters_of_paired(pairing, left, right)
         }
         (Conclusion::Has(_, _), Judgement::Disj { .. }) => None,
     }
@@ -99,7 +99,7 @@ fn part_of<'a>(part: Part, letters: Letters<'a>) -> &'a Term
 }
 
 // A premise, with its letters filled in.
-pub(crate) fn filled<'a>(letters: Letters<'a>, need: Need) -> Judgement<'a>
+pub(crate) fn fill<'a>(letters: Letters<'a>, need: Need) -> Judgement<'a>
     ensures { claim result ≡ filled (letters_seen letters.entry) need }
 {
     match need {

@@ -8,8 +8,10 @@
 //! table stands in `table.rt`, and is proved to be that one, row by row and name by name. A `Derivation`
 //! is seen as a tree of rules (`specs/RuleTrees.antt`); which trees are valid for a claim, which one is
 //! the first, and which node is the first bad one is defined in `specs/Derivations.antt` and
-//! `specs/BadNodes.antt`, and a `Why` is seen as a list of reasons (`specs/Reasons.antt`). It stands on
-//! std, and on `vir_term` for terms and their properties.
+//! `specs/BadNodes.antt`, and a `Why` is seen as a list of reasons (`specs/Reasons.antt`). Properties and
+//! rules are told by their names: `specs/Props.antt` has the texts, and `specs/Named.antt` says what a name
+//! stands for. It stands on std, on `itoa` for the digits of numbers, and on `vir_term` for terms and their
+//! properties.
 #![tactic(auto)]
 
 mod derivation;
@@ -33,7 +35,7 @@ pub use form::Form;
 pub use judgement::Judgement;
 pub use numbers::{number_for, prop_for};
 pub use premises::{fits, need_at, need_count, premise, premise_count};
-pub use prop_name::{Counted, PropName};
+pub use prop_name::{Counted, PropName, prop_word};
 pub use prop_reader::read_prop;
 pub use row::{Conclusion, Family, Need, Pairing, Part, Shape, Wanted};
 pub use rule_id::RuleId;

@@ -5,7 +5,7 @@ ghost use Rattle.vir_rules.specs.Claims.{claim};
 ghost use Rattle.vir_rules.specs.Premises.{row_of, premises, fits};
 
 use crate::judgement::Judgement;
-use crate::letters::{filled, letters_in};
+use crate::letters::{fill, letters_in};
 use crate::row::{Need, Row};
 use crate::rule_id::RuleId;
 use crate::table::row_of;
@@ -48,10 +48,11 @@ pub fn premise_count(rule: RuleId, judgement: Judgement) -> Option<usize>
 /// A premise of the rule on the judgement, the first one at 0; none where it doesn't fit, and where it has
 /// no such premise.
 pub fn premise<'a>(rule: RuleId, judgement: Judgement<'a>, i: usize) -> Option<Judgement<'a>>
-    ensures { option_map claim result ≡ option_and_then (λ needed. slice_get needed i) (premises rule (claim judgement.entry)) }
+    ensures { option_map claim result ≡ option_and_then (λ needed. slice_get needed i)
+        (premises rule (claim judgement.entry)) }
 {
     let Row(_, conclusion, _) = row_of(rule);
     let letters = letters_in(conclusion, judgement)?;
     let need = need_at(rule, i)?;
-    Some(filled(letters, need))
+    Some(fill(letters, need))
 }

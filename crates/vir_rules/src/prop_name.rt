@@ -1,6 +1,7 @@
 // The names of properties.
 ghost use Rattle.std.specs.Prelude.{◌≡◌};
-ghost use Rattle.vir_rules.specs.Named.{counted_prop, lift_named, prop_named, size_named, winner_named};
+ghost use Rattle.vir_rules.specs.Named.{counted_prop, name_text, prop_named, prop_names};
+ghost use Rattle.vir_rules.specs.Props.{prop_word};
 
 use vir_term::Prop;
 
@@ -37,73 +38,80 @@ impl Counted {
     }
 }
 
-fn winner_named(name: &[u8]) -> Option<PropName>
-    ensures { result ≡ winner_named name.now }
+/// The name of a property, without its number. It is what is printed, and what is read.
+pub fn prop_word(prop: Prop) -> &'static str
+    ensures { result.now ≡ prop_word prop }
 {
-    if name == "cc".as_bytes() {
-        Some(PropName::Alone(Prop::Cc))
-    } else if name == "dcc".as_bytes() {
-        Some(PropName::Alone(Prop::Dcc))
-    } else if name == "cprog".as_bytes() {
-        Some(PropName::Alone(Prop::Cprog))
-    } else if name == "ccomp".as_bytes() {
-        Some(PropName::Alone(Prop::Ccomp))
-    } else if name == "neut".as_bytes() {
-        Some(PropName::Alone(Prop::Neut))
-    } else {
-        None
+    match prop {
+        Prop::Ne => "ne",
+        Prop::Ea => "ea",
+        Prop::El => "el",
+        Prop::Defers(_) => "defers",
+        Prop::Rejects(_) => "rejects",
+        Prop::Elim(_) => "elim",
+        Prop::Nb => "nb",
+        Prop::Decr => "decr",
+        Prop::Dli => "dli",
+        Prop::Imono => "imono",
+        Prop::Dimono => "dimono",
+        Prop::Dmono => "dmono",
+        Prop::Mono => "mono",
+        Prop::Cc => "cc",
+        Prop::Dcc => "dcc",
+        Prop::Cprog => "cprog",
+        Prop::Ccomp => "ccomp",
+        Prop::Neut => "neut",
     }
 }
 
-fn lift_named(name: &[u8]) -> Option<PropName>
-    ensures { result ≡ lift_named name.now }
-{
-    if name == "dli".as_bytes() {
-        Some(PropName::Alone(Prop::Dli))
-    } else if name == "imono".as_bytes() {
-        Some(PropName::Alone(Prop::Imono))
-    } else if name == "dimono".as_bytes() {
-        Some(PropName::Alone(Prop::Dimono))
-    } else if name == "dmono".as_bytes() {
-        Some(PropName::Alone(Prop::Dmono))
-    } else if name == "mono".as_bytes() {
-        Some(PropName::Alone(Prop::Mono))
-    } else {
-        winner_named(name)
-    }
-}
+static NAMES: [PropName; 18] = [
+    PropName::Alone(Prop::Ne),
+    PropName::Alone(Prop::Ea),
+    PropName::Alone(Prop::El),
+    PropName::WithNumber(Counted::Defers),
+    PropName::WithNumber(Counted::Rejects),
+    PropName::WithNumber(Counted::Elim),
+    PropName::Alone(Prop::Nb),
+    PropName::Alone(Prop::Decr),
+    PropName::Alone(Prop::Dli),
+    PropName::Alone(Prop::Imono),
+    PropName::Alone(Prop::Dimono),
+    PropName::Alone(Prop::Dmono),
+    PropName::Alone(Prop::Mono),
+    PropName::Alone(Prop::Cc),
+    PropName::Alone(Prop::Dcc),
+    PropName::Alone(Prop::Cprog),
+    PropName::Alone(Prop::Ccomp),
+    PropName::Alone(Prop::Neut),
+];
 
-fn size_named(name: &[u8]) -> Option<PropName>
-    ensures { result ≡ size_named name.now }
+// The names of all properties, in the order of properties.
+fn names() -> &'static [PropName; 18]
+    ensures { result.now ≡ prop_names }
 {
-    if name == "defers".as_bytes() {
-        Some(PropName::WithNumber(Counted::Defers))
-    } else if name == "rejects".as_bytes() {
-        Some(PropName::WithNumber(Counted::Rejects))
-    } else if name == "elim".as_bytes() {
-        Some(PropName::WithNumber(Counted::Elim))
-    } else if name == "nb".as_bytes() {
-        Some(PropName::Alone(Prop::Nb))
-    } else if name == "decr".as_bytes() {
-        Some(PropName::Alone(Prop::Decr))
-    } else {
-        lift_named(name)
-    }
+    &NAMES
 }
 
 impl PropName {
-    /// What a word names; none where it names no property.
-    pub fn named(name: &[u8]) -> Option<PropName>
-        ensures { result ≡ prop_named name.now }
+    /// The name itself.
+    pub fn text(self) -> &'static str
+        ensures { result.now ≡ name_text self }
     {
-        if name == "ne".as_bytes() {
-            Some(PropName::Alone(Prop::Ne))
-        } else if name == "ea".as_bytes() {
-            Some(PropName::Alone(Prop::Ea))
-        } else if name == "el".as_bytes() {
-            Some(PropName::Alone(Prop::El))
-        } else {
-            size_named(name)
+        match self {
+            PropName::Alone(prop) => prop_word(prop),
+            PropName::WithNumber(name) => prop_word(name.prop(1)),
         }
+    }
+
+    /// What a word names; none where it names no property.
+    pub fn named(text: &[u8]) -> Option<PropName>
+        ensures { result ≡ prop_named text.now }
+    {
+        for name in names() {
+            if text == name.text().as_bytes() {
+                return Some(*name);
+            }
+        }
+        None
     }
 }

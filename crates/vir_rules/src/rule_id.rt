@@ -1,4 +1,6 @@
+// The rules of the table, by their numbers and by their names.
 ghost use Rattle.std.specs.Prelude.{ℕ, ◌≡◌, ◌≢◌, ◌+◌, ◌≤◌, if◌then◌else◌, nat_lt, Some, None, IfSome, MatchOption, ⊤};
+ghost use Rattle.vir_rules.specs.Counts.{rule_count};
 ghost use Rattle.vir_rules.specs.Premises.{row_of};
 ghost use Rattle.vir_rules.specs.Named.{rule_named};
 
@@ -14,13 +16,13 @@ pub struct RuleId {
 
 impl Model for RuleId {
     ghost use Rattle.std.specs.Prelude.{ℕ, ◌≤◌};
-    ghost use Rattle.vir_rules.specs.declared.rule_id.TheConstants.RuleId.{COUNT};
+    ghost use Rattle.vir_rules.specs.Counts.{rule_count};
 
     ghost Value = { ℕ };
 
     ghost view = { λ rule. rule.number };
 
-    ghost invariant = { λ rule. (1 ≤ rule.number) × (rule.number ≤ COUNT) };
+    ghost invariant = { λ rule. (1 ≤ rule.number) × (rule.number ≤ rule_count) };
 
     ghost inverse = { λ number. record { number = number } };
 }
@@ -33,14 +35,14 @@ impl RuleId {
     pub fn number(self) -> usize
         ensures value { result ≡ self }
         ensures some { 1 ≤ result }
-        ensures few { result ≤ RuleId.COUNT }
+        ensures few { result ≤ rule_count }
     {
         self.number as usize
     }
 
     /// The rule at a place of the table, the first one at 0; none where the table ends before.
     pub fn at(i: usize) -> Option<RuleId>
-        ensures { result ≡ (if nat_lt i RuleId.COUNT then Some (i + 1) else None) }
+        ensures { result ≡ (if nat_lt i rule_count then Some (i + 1) else None) }
     {
         if i >= RuleId::COUNT {
             return None;
@@ -59,8 +61,9 @@ impl RuleId {
 
     // The rule of this name, by its name and those of the others.
     fn find(name: &[u8]) -> Option<RuleId>
-        ensures found { IfSome result (λ rule. ((row_of rule).name ≡ name.now) × (1 ≤ rule) × (rule ≤ RuleId.COUNT)) }
-        ensures missing { MatchOption result ((number : ℕ) → 1 ≤ number → number ≤ RuleId.COUNT → (row_of number).name ≢ name.now) (λ rule. ⊤) }
+        ensures found { IfSome result (λ rule. ((row_of rule).name ≡ name.now) × (1 ≤ rule) × (rule ≤ rule_count)) }
+        ensures missing { MatchOption result ((number : ℕ) → 1 ≤ number → number ≤ rule_count → (row_of number).name ≢
+            name.now) (λ rule. ⊤) }
     {
         for i in 0..RuleId::COUNT {
             let rule = RuleId::at(i)?;
@@ -75,7 +78,8 @@ impl RuleId {
     pub fn named(name: &[u8]) -> Option<RuleId>
         ensures exact { result ≡ rule_named name.now }
         ensures found { IfSome result (λ rule. (row_of rule).name ≡ name.now) }
-        ensures missing { MatchOption result ((number : ℕ) → 1 ≤ number → number ≤ RuleId.COUNT → (row_of number).name ≢ name.now) (λ rule. ⊤) }
+        ensures missing { MatchOption result ((number : ℕ) → 1 ≤ number → number ≤ rule_count → (row_of number).name ≢
+            name.now) (λ rule. ⊤) }
     {
         match RuleId::find(name) {
             Some(rule) => Some(rule),

@@ -1,3 +1,4 @@
+// What can be wrong with a node of a derivation.
 ghost use Rattle.std.specs.Prelude.{◌≡◌};
 ghost use Rattle.vir_rules.specs.UnfitNames.{unfit_name};
 

@@ -1,3 +1,4 @@
+// Reasons against judgements.
 ghost use Rattle.std.specs.Prelude.{◌≡◌, [], ◌∷◌, ◌++◌, length, slice_get, option_map, OnOk, OnErr};
 ghost use Rattle.vir_rules.specs.Reasons.{reason_seen, reasons_seen};
 

@@ -9,4 +9,5 @@ fn laws_can_be_called() {
     laws::first_derivation_is_unique();
     laws::bad_nodes_tell();
     laws::reasons_are_unique();
+    laws::valid_trees_are_of_rules();
 }

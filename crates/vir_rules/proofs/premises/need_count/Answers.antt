@@ -4,4 +4,5 @@ use Rattle.vir_rules.proofs.Rows.{few_premises}
 use Rattle.vir_rules.proofs.premises.need_count.Goals as goal
 
 pub returns-clause-few : goal.returns-clause-few
-returns-clause-few c = subst (λ (row : Rule). length row.premises ≤ 4) (sym c.row_of.ensures.row) (few_premises c.args.rule)
+returns-clause-few c = subst (λ (row : Rule). length row.premises ≤ 4) (sym c.row_of.ensures.row)
+    (few_premises c.args.rule)
