@@ -1,6 +1,6 @@
 #!/usr/bin/env bash
-# Compares the rules of docs/RULES.md with the table of crates/vir_rules/specs: number, name, what each rule concludes, and its
-# premises. It prints a line, and ends with 1 where they differ, and names each rule that does.
+# Compares the rules of docs/RULES.md with the table of crates/vir_rules/specs: number, name, what each rule
+# concludes, and its premises. It prints a line; where they differ it names each rule that does, and ends with 1.
 set -u
 cd "$(dirname "$0")/.." || exit 1
 if ! command -v python3 >/dev/null; then

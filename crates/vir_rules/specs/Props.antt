@@ -1,5 +1,5 @@
 -- Properties as the rules write and compare them.
-use Rattle.std.specs.Prelude.{ℕ, Bool, ◌&&◌, nat_eq, List, ◌++◌, codes, decimal}
+use Rattle.std.specs.Prelude.{ℕ, Bool, ◌&&◌, nat_eq, List, [], ◌++◌, codes, decimal}
 use Rattle.vir_term.specs.declared.prop.Prop.{Prop}
 use Rattle.vir_term.specs.declared.prop.Prop.TheVariants.{Ne, Ea, El, Defers, Rejects, Elim, Nb, Decr, Dli, Imono}
 use Rattle.vir_term.specs.declared.prop.Prop.TheVariants.{Dimono, Dmono, Mono, Cc, Dcc, Cprog, Ccomp, Neut}
@@ -57,13 +57,17 @@ prop_word Cprog = codes "cprog"
 prop_word Ccomp = codes "ccomp"
 prop_word Neut = codes "neut"
 
--- a property of a number of alternatives, as a text
-abbrev pub counted_text : List ℕ → ℕ → List ℕ
-counted_text name k = name ++ codes "(" ++ decimal k ++ codes ")"
+-- a number in parentheses
+abbrev pub in_parentheses : ℕ → List ℕ
+in_parentheses k = codes "(" ++ decimal k ++ codes ")"
 
--- the text of a property: its name, and its number in parentheses where it has one
+-- what stands behind the name of a property: its number, where it has one
+abbrev pub number_text : Prop → List ℕ
+number_text (Defers k) = in_parentheses k
+number_text (Rejects k) = in_parentheses k
+number_text (Elim k) = in_parentheses k
+number_text _ = []
+
+-- the text of a property
 abbrev pub prop_text : Prop → List ℕ
-prop_text (Defers k) = counted_text (prop_word (Defers k)) k
-prop_text (Rejects k) = counted_text (prop_word (Rejects k)) k
-prop_text (Elim k) = counted_text (prop_word (Elim k)) k
-prop_text p = prop_word p
+prop_text prop = prop_word prop ++ number_text prop
