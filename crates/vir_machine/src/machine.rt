@@ -19,7 +19,7 @@ use crate::stack::Stack;
 use std::alloc::{AllocError, Global};
 use std::marker::Model;
 use vir_code::{CODE_LIMIT, Code, Instr};
-use vir_mean::{joined, merged, revised};
+use vir_mean::{join_in_parallel, join_in_sequence, revise};
 use vir_profile::{AltSet, Split};
 use vir_tables::Election;
 
@@ -155,19 +155,19 @@ fn act(
         Instr::JoinSeq => {
             let second = splits.pop();
             let first = splits.pop();
-            splits.push(joined(&first, &second));
+            splits.push(join_in_sequence(&first, &second));
             *here = domains.pop();
             place + 1
         }
         Instr::JoinMax => {
             let second = splits.pop();
             let first = splits.pop();
-            splits.push(merged(&first, &second));
+            splits.push(join_in_parallel(&first, &second));
             place + 1
         }
         Instr::Revise => {
             let top = splits.pop();
-            splits.push(revised(&top, here));
+            splits.push(revise(&top, here));
             place + 1
         }
         Instr::StartLoop => {
@@ -195,7 +195,7 @@ fn act(
                 place + 1
             } else {
                 let so_far = splits.pop();
-                splits.push(joined(&so_far, &turn));
+                splits.push(join_in_sequence(&so_far, &turn));
                 *here = turn.deferred;
                 *start
             }

@@ -11,6 +11,7 @@ pub mod MemberCounts
 pub mod MemberListings
 pub mod MemberLists
 pub mod MemberSums
+pub mod MovedBack
 pub mod PairScores
 pub mod Passing
 pub mod RenamedElections

@@ -1,5 +1,7 @@
 -- What a lift does to scores: that of the lifted alternative doesn't fall, and no other rises.
-use Rattle.std.proofs.Common.{◌≡◌, ◌≢◌, ◌⊎◌, inl, inr, ℕ, ◌<◌, ◌≤◌, Bool, true, false, true≢false, not, ◌||◌, ◌&&◌, nat_eq, nat_lt, List, refl, sym, ap, ap₂, ◌∙◌, subst, arith, eqb-true, pos, ◌-ℤ◌, ◌≤ℤ◌, ◌<ℤ◌, int_lt}
+use Rattle.std.proofs.Common.{◌≡◌, ◌≢◌, ◌⊎◌, inl, inr, ℕ, ◌<◌, ◌≤◌, Bool, true, false, true≢false, not, ◌||◌, ◌&&◌}
+use Rattle.std.proofs.Common.{nat_eq, nat_lt, List, refl, sym, ap, ap₂, ◌∙◌, subst, arith, eqb-true, pos, ◌-ℤ◌, ◌≤ℤ◌}
+use Rattle.std.proofs.Common.{◌<ℤ◌, int_lt}
 use Rattle.std.proofs.lemmas.Bool.Decides.{nat_tests}
 use Rattle.std.proofs.lemmas.Int.{ints}
 use Rattle.std.specs.FinSet as set
@@ -19,8 +21,12 @@ use Rattle.vir_mean.specs.Scores.{beats, beats_all, score}
 use Rattle.vir_mean.proofs.EliminatedSplits.{retain_same}
 use Rattle.vir_mean.proofs.MemberCounts.{often, in_items, finds, total_same}
 use Rattle.vir_mean.proofs.MemberListings.{others_list}
-use Rattle.vir_mean.proofs.ScoreComparisons.{total-no_less, total-greater, least-no_less, list_all-weaker, list_all-each, retain-weaker, retain-tells}
-use Rattle.vir_mean.proofs.LiftedWeights.{lifted_first_weight, other_first_weight, moved_first_weight, pairwise_weight-of_lifted, pairwise_weight-against_lifted, pairwise_weight-against_other, pairwise_weight-of_other, pairwise_weight-between_others, moved_pairwise_weight}
+use Rattle.vir_mean.proofs.ScoreComparisons.{total-no_less, total-greater, least-no_less, list_all-weaker}
+use Rattle.vir_mean.proofs.ScoreComparisons.{list_all-each, retain-weaker, retain-tells}
+use Rattle.vir_mean.proofs.LiftedWeights.{lifted_first_weight, other_first_weight, moved_first_weight}
+use Rattle.vir_mean.proofs.LiftedWeights.{pairwise_weight-of_lifted, pairwise_weight-against_lifted}
+use Rattle.vir_mean.proofs.LiftedWeights.{pairwise_weight-against_other, pairwise_weight-of_other}
+use Rattle.vir_mean.proofs.LiftedWeights.{pairwise_weight-between_others, moved_pairwise_weight}
 
 -- ---- numbers as whole numbers
 up : {m n : ℕ} → m ≤ n → pos m ≤ℤ pos n
@@ -48,7 +54,8 @@ stronger k l m n more fewer less = grind (arith, nat_tests)
 implied_or : (b c d : Bool) → (c ≡ true → d ≡ true) → (b || c) ≡ true → (b || d) ≡ true
 implied_or b c d implied one = grind arith
 
-module _ (a : Set) (p q : List Entry) (x : ℕ) (on : IsProfileOn a p) (on_after : IsProfileOn a q) (inside : set.contains a x ≡ true) (lifted : Lifts x p q) where
+module _ (a : Set) (p q : List Entry) (x : ℕ) (on : IsProfileOn a p) (on_after : IsProfileOn a q)
+    (inside : set.contains a x ≡ true) (lifted : Lifts x p q) where
   of_lifted : (y : ℕ) → pairwise_weight p x y ≤ pairwise_weight q x y
   of_lifted = pairwise_weight-of_lifted a p q x on on_after inside lifted
 
@@ -86,23 +93,27 @@ module _ (a : Set) (p q : List Entry) (x : ℕ) (on : IsProfileOn a p) (on_after
       same = pairwise_weight-between_others a p q x on on_after inside lifted
 
   lifted_beats_all : beats_all x a p ≡ true → beats_all x a q ≡ true
-  lifted_beats_all = list_all-weaker _ _ (set.items a) (λ y. implied_or (nat_eq y x) (beats p x y) (beats q x y) (lifted_beats y))
+  lifted_beats_all = list_all-weaker _ _ (set.items a) (λ y. implied_or (nat_eq y x) (beats p x y) (beats q x y)
+      (lifted_beats y))
 
   other_beats_all : (y : ℕ) → nat_eq x y ≡ false → beats_all y a q ≡ true → beats_all y a p ≡ true
-  other_beats_all y apart = list_all-weaker _ _ (set.items a) (λ z. implied_or (nat_eq z y) (beats q y z) (beats p y z) (other_beats y apart z))
+  other_beats_all y apart = list_all-weaker _ _ (set.items a) (λ z. implied_or (nat_eq z y) (beats q y z) (beats p y z)
+      (other_beats y apart z))
 
   -- ---- the scores
   pub lifted_score_never_falls : (s : Score) → score s a p x ≤ℤ score s a q x
   lifted_score_never_falls Plurality = up (lifted_first_weight a p q x on on_after inside lifted)
   lifted_score_never_falls Borda = up (total-no_less _ _ (others x a) of_lifted)
-  lifted_score_never_falls Copeland = up_gap _ _ _ _ (len-part _ _ (retain-weaker a _ _ lifted_beats)) (len-part _ _ (retain-weaker a _ _ lifted_is_beaten))
+  lifted_score_never_falls Copeland = up_gap _ _ _ _ (len-part _ _ (retain-weaker a _ _ lifted_beats))
+      (len-part _ _ (retain-weaker a _ _ lifted_is_beaten))
   lifted_score_never_falls Minimax = up (least-no_less _ _ (others x a) of_lifted)
   lifted_score_never_falls Condorcet = up_bit _ _ lifted_beats_all
 
   other_score : (s : Score) (y : ℕ) → nat_eq x y ≡ false → score s a q y ≤ℤ score s a p y
   other_score Plurality y apart = up (other_first_weight a p q x on on_after inside lifted y apart)
   other_score Borda y apart = up (total-no_less _ _ (others y a) (λ z. of_other y z apart))
-  other_score Copeland y apart = up_gap _ _ _ _ (len-part _ _ (retain-weaker a _ _ (other_beats y apart))) (len-part _ _ (retain-weaker a _ _ (other_is_beaten y apart)))
+  other_score Copeland y apart = up_gap _ _ _ _ (len-part _ _ (retain-weaker a _ _ (other_beats y apart)))
+      (len-part _ _ (retain-weaker a _ _ (other_is_beaten y apart)))
   other_score Minimax y apart = up (least-no_less _ _ (others y a) (λ z. of_other y z apart))
   other_score Condorcet y apart = up_bit _ _ (other_beats_all y apart)
 
@@ -111,12 +122,15 @@ module _ (a : Set) (p q : List Entry) (x : ℕ) (on : IsProfileOn a p) (on_after
 
   -- ---- where another's score changes
   -- x's first places rise with it
-  pub moved_plurality : (y : ℕ) → set.contains a y ≡ true → y ≢ x → score Plurality a q y ≢ score Plurality a p y → score Plurality a p x <ℤ score Plurality a q x
-  moved_plurality y member apart moved = strictly_up (moved_first_weight a p q x on on_after inside lifted y (other x y apart) (λ e. moved (ap pos e)))
+  pub moved_plurality : (y : ℕ) → set.contains a y ≡ true → y ≢ x → score Plurality a q y ≢ score Plurality a p y
+      → score Plurality a p x <ℤ score Plurality a q x
+  moved_plurality y member apart moved = strictly_up (moved_first_weight a p q x on on_after inside lifted y
+      (other x y apart) (λ e. moved (ap pos e)))
 
   -- another of the set than x stands among the others
   among_others : (y : ℕ) → set.contains a y ≡ true → nat_eq x y ≡ false → 0 < often y (others x a)
-  among_others y member apart = step (nat_eq x y) (nat_eq y x) (set.contains a y) (often y (others x a)) turn ((others_list a x).each y ∙ ap bit (contains-remove a x y)) member apart
+  among_others y member apart = step (nat_eq x y) (nat_eq y x) (set.contains a y) (often y (others x a)) turn
+      ((others_list a x).each y ∙ ap bit (contains-remove a x y)) member apart
     where
       step : (e f b : Bool) (n : ℕ) → e ≡ f → n ≡ bit (not f && b) → b ≡ true → e ≡ false → 0 < n
       step e f b n same is member apart = grind arith
@@ -124,9 +138,11 @@ module _ (a : Set) (p q : List Entry) (x : ℕ) (on : IsProfileOn a p) (on_after
       turn : nat_eq x y ≡ nat_eq y x
       turn = grind (arith, nat_tests)
 
-  pub moved_borda : (y : ℕ) → set.contains a y ≡ true → y ≢ x → score Borda a q y ≢ score Borda a p y → score Borda a p x <ℤ score Borda a q x
+  pub moved_borda : (y : ℕ) → set.contains a y ≡ true → y ≢ x → score Borda a q y ≢ score Borda a p y
+      → score Borda a p x <ℤ score Borda a q x
   moved_borda y member apart moved =
-      strictly_up (total-greater _ _ (others x a) y of_lifted (among_others y member (other x y apart)) (moved_pairwise_weight a p q x on on_after inside lifted y (other x y apart) differ))
+      strictly_up (total-greater _ _ (others x a) y of_lifted (among_others y member (other x y apart))
+      (moved_pairwise_weight a p q x on on_after inside lifted y (other x y apart) differ))
     where
       each : pairwise_weight q y x ≡ pairwise_weight p y x → (z : ℕ) → pairwise_weight q y z ≡ pairwise_weight p y z
       each same z = elim (nat_eq x z) as (λ b. nat_eq x z ≡ b → pairwise_weight q y z ≡ pairwise_weight p y z) [
@@ -135,10 +151,13 @@ module _ (a : Set) (p q : List Entry) (x : ℕ) (on : IsProfileOn a p) (on_after
       ] refl
 
       differ : pairwise_weight q y x ≢ pairwise_weight p y x
-      differ same = moved (ap pos (total_same (pairwise_weight q y) (pairwise_weight p y) (others y a) (λ z some. each same z)))
+      differ same =
+          moved (ap pos (total_same (pairwise_weight q y) (pairwise_weight p y) (others y a) (λ z some. each same z)))
 
-  pub moved_copeland : (y : ℕ) → set.contains a y ≡ true → y ≢ x → score Copeland a q y ≢ score Copeland a p y → score Copeland a p x <ℤ score Copeland a q x
-  moved_copeland y member apart moved = step _ _ _ _ (len-part _ _ more) (len-part _ _ fewer) (λ e f. moved (unchanged (whole_part _ _ more (at_most e)) (whole_part _ _ fewer (at_most f))))
+  pub moved_copeland : (y : ℕ) → set.contains a y ≡ true → y ≢ x → score Copeland a q y ≢ score Copeland a p y
+      → score Copeland a p x <ℤ score Copeland a q x
+  moved_copeland y member apart moved = step _ _ _ _ (len-part _ _ more) (len-part _ _ fewer)
+      (λ e f. moved (unchanged (whole_part _ _ more (at_most e)) (whole_part _ _ fewer (at_most f))))
     where
       more : IsPart (set.retain a (beats p x)) (set.retain a (beats q x))
       more = retain-weaker a _ _ lifted_beats
@@ -164,18 +183,29 @@ module _ (a : Set) (p q : List Entry) (x : ℕ) (on : IsProfileOn a p) (on_after
         | false ↦ λ e. there z e
       ] refl
 
-      unchanged : set.retain a (beats p x) ≡ set.retain a (beats q x) → set.retain a (λ z. beats q z x) ≡ set.retain a (λ z. beats p z x) → score Copeland a q y ≡ score Copeland a p y
+      unchanged : set.retain a (beats p x) ≡ set.retain a (beats q x) → set.retain a (λ z. beats q z x)
+          ≡ set.retain a (λ z. beats p z x) → score Copeland a q y ≡ score Copeland a p y
       unchanged won lost = ap₂ (λ s t. pos (set.len s) -ℤ pos (set.len t))
-          (retain_same a (beats q y) (beats p y) (λ z _. each (beats q y) (beats p y) (retain-tells a (λ z. beats q z x) (λ z. beats p z x) y member lost) (λ z e. others_beat y z (other x y apart) e) z))
-          (retain_same a (λ z. beats q z y) (λ z. beats p z y) (λ z _. each (λ z. beats q z y) (λ z. beats p z y) (sym (retain-tells a (beats p x) (beats q x) y member won)) (λ z e. others_beat z y e (other x y apart)) z))
+          (retain_same a (beats q y) (beats p y) (λ z _. each (beats q y) (beats p y) (retain-tells a (λ z. beats q z x)
+          (λ z. beats p z x) y member lost) (λ z e. others_beat y z (other x y apart) e) z))
+          (retain_same a (λ z. beats q z y) (λ z. beats p z y) (λ z _. each (λ z. beats q z y) (λ z. beats p z y)
+          (sym (retain-tells a (beats p x) (beats q x) y member won)) (λ z e. others_beat z y e (other x y apart))
+          z))
 
   -- where none has a greater Condorcet score than x, all keep theirs, or x is the Condorcet winner
   pub lifted_leader_by_condorcet_score : is_passed (score Condorcet a p) a x ≡ false
       → ((y : ℕ) → set.contains a y ≡ true → score Condorcet a q y ≡ score Condorcet a p y) ⊎ IsCondorcetWinner x a q
-  lifted_leader_by_condorcet_score leads = elim (beats_all x a q) as (λ b. beats_all x a q ≡ b → ((y : ℕ) → set.contains a y ≡ true → score Condorcet a q y ≡ score Condorcet a p y) ⊎ IsCondorcetWinner x a q) [
-    | true ↦ λ e. inr (record { member = inside; wins = λ y member apart. wins (nat_eq y x) _ _ (other y x (λ same. apart (sym same))) (list_all-each _ (set.items a) e y (sym (in_items a y) ∙ member)) })
-    | false ↦ λ e. inl (λ y member. ap (λ b. pos (bit b)) (same e y member))
-  ] refl
+  lifted_leader_by_condorcet_score leads = elim (beats_all x a q) as (λ b. beats_all x a q ≡ b
+      → ((y : ℕ) → set.contains a y ≡ true → score Condorcet a q y ≡ score Condorcet a p y) ⊎ IsCondorcetWinner x a q) [
+        | true ↦ λ e.
+            inr
+            (record {
+              member = inside;
+              wins = λ y member apart. wins (nat_eq y x) _ _ (other y x (λ same. apart (sym same)))
+                  (list_all-each _ (set.items a) e y (sym (in_items a y) ∙ member));
+            })
+        | false ↦ λ e. inl (λ y member. ap (λ b. pos (bit b)) (same e y member))
+      ] refl
     where
       wins : (same : Bool) (m n : ℕ) → same ≡ false → (same || nat_lt m n) ≡ true → m < n
       wins same m n apart one = grind (arith, nat_tests)
@@ -187,7 +217,9 @@ module _ (a : Set) (p q : List Entry) (x : ℕ) (on : IsProfileOn a p) (on_after
           step b c implied fails = grind arith
 
       nobody : beats_all x a q ≡ false → (y : ℕ) → set.contains a y ≡ true → beats_all y a p ≡ true → ⊥
-      nobody e y member f = true≢false (sym (finds (λ z. int_lt (score Condorcet a p x) (score Condorcet a p z)) (set.items a) y (sym (in_items a y) ∙ member) (ap₂ (λ b c. int_lt (pos (bit b)) (pos (bit c))) (before e) f)) ∙ leads)
+      nobody e y member f =
+          true≢false (sym (finds (λ z. int_lt (score Condorcet a p x) (score Condorcet a p z)) (set.items a) y
+          (sym (in_items a y) ∙ member) (ap₂ (λ b c. int_lt (pos (bit b)) (pos (bit c))) (before e) f)) ∙ leads)
 
       same : beats_all x a q ≡ false → (y : ℕ) → set.contains a y ≡ true → beats_all y a q ≡ beats_all y a p
       same e y member = elim (nat_eq x y) as (λ b. nat_eq x y ≡ b → beats_all y a q ≡ beats_all y a p) [

@@ -1,5 +1,6 @@
 -- How often numbers stand in lists of members.
-use Rattle.std.proofs.Common.{true≢false, ◌≡◌, ℕ, ◌+◌, ◌-◌, ◌<◌, ◌≤◌, Bool, true, false, cond, not, ◌||◌, ◌&&◌, nat_eq, List, [], ◌∷◌, refl, sym, ap, ap₂, ◌∙◌, arith}
+use Rattle.std.proofs.Common.{true≢false, ◌≡◌, ℕ, ◌+◌, ◌-◌, ◌<◌, ◌≤◌, Bool, true, false, cond, not, ◌||◌, ◌&&◌, nat_eq}
+use Rattle.std.proofs.Common.{List, [], ◌∷◌, refl, sym, ap, ap₂, ◌∙◌, arith}
 use Rattle.std.proofs.lemmas.Bool.Decides.{nat_tests}
 use Rattle.std.proofs.lemmas.List.Sums.{sum_by-cons}
 use Rattle.std.specs.Cmp.{nat_cmp_total, unsigned_tied}
@@ -24,7 +25,8 @@ pub record Lists (a : Set) (list : List ℕ) : Type 0 where
 
 often_is_times : (x : ℕ) (list : List ℕ) → often x list ≡ times x list
 often_is_times x [] = refl
-often_is_times x (y ∷ list) = step (nat_eq x y) (nat_eq y x) (often x list) (times x list) (turn x y) (often_is_times x list) ∙ sym (sum_by-cons (λ z. cond (nat_eq z x) 1 0) y list)
+often_is_times x (y ∷ list) = step (nat_eq x y) (nat_eq y x) (often x list) (times x list) (turn x y)
+    (often_is_times x list) ∙ sym (sum_by-cons (λ z. cond (nat_eq z x) 1 0) y list)
   where
     turn : (x y : ℕ) → nat_eq x y ≡ nat_eq y x
     turn x y = grind (arith, nat_tests)
@@ -57,7 +59,8 @@ in_items a x = contains-items a x ∙ any_tied x (items a)
 same : (x : ℕ) → nat_eq x x ≡ true
 same x = grind (arith, nat_tests)
 
-finds_step : (f : ℕ → Bool) (x y : ℕ) (a b : Bool) → f x ≡ true → (nat_eq x y || a) ≡ true → (a ≡ true → b ≡ true) → (f y || b) ≡ true
+finds_step : (f : ℕ → Bool) (x y : ℕ) (a b : Bool) → f x ≡ true → (nat_eq x y || a) ≡ true → (a ≡ true → b ≡ true)
+    → (f y || b) ≡ true
 finds_step f x y a b e h k = grind (arith, nat_tests)
 
 -- a test that is true of a number in a list is true of some
@@ -65,7 +68,8 @@ pub finds : (f : ℕ → Bool) (xs : List ℕ) (x : ℕ) → list_any (nat_eq x)
 finds f [] x h e = h
 finds f (y ∷ ys) x h e = finds_step f x y (list_any (nat_eq x) ys) (list_any f ys) e h (λ k. finds f ys x k e)
 
-once_step : (x y : ℕ) (ys os : List ℕ) → often x os ≡ bit (list_any (nat_eq x) ys) → often x (cond (list_any (nat_eq y) ys) os (y ∷ os)) ≡ bit (nat_eq x y || list_any (nat_eq x) ys)
+once_step : (x y : ℕ) (ys os : List ℕ) → often x os ≡ bit (list_any (nat_eq x) ys)
+    → often x (cond (list_any (nat_eq y) ys) os (y ∷ os)) ≡ bit (nat_eq x y || list_any (nat_eq x) ys)
 once_step x y ys os ih = grind (arith, nat_tests)
 
 often-once : (x : ℕ) (xs : List ℕ) → often x (once xs) ≡ bit (list_any (nat_eq x) xs)
@@ -100,11 +104,14 @@ len_pos d x h = nonzero (len d) (λ e. true≢false (sym h ∙ ap (λ s. contain
 counted : (b : Bool) (n m t u : ℕ) → (b ≡ true → 0 < n) → m ≡ cond b (n - 1) n → m ≡ t → t ≡ u → n ≡ bit b + u
 counted b n m t u h k l j = grind arith
 
-len_counts : (list : List ℕ) (d : Set) → ((x : ℕ) → often x list ≤ 1) → ((x : ℕ) → bit (contains d x) ≤ often x list) → len d ≡ total (λ x. bit (contains d x)) list
-len_counts [] d one in_list = ap len (same_members d empty (λ x. (let k = in_list x in grind arith) ∙ sym (contains-empty x))) ∙ len-empty nat_cmp
+len_counts : (list : List ℕ) (d : Set) → ((x : ℕ) → often x list ≤ 1) → ((x : ℕ) → bit (contains d x) ≤ often x list)
+    → len d ≡ total (λ x. bit (contains d x)) list
+len_counts [] d one in_list = ap len (same_members d empty (λ x. (let k = in_list x in grind arith)
+    ∙ sym (contains-empty x))) ∙ len-empty nat_cmp
 len_counts (y ∷ ys) d one in_list =
     counted (contains d y) _ _ _ _ (len_pos d y) (len-remove nat_cmp_total d y)
-    (len_counts ys (remove d y) (λ x. let k = one x in omega arith) (λ x. rw contains-remove (less_one (contains d x) (nat_eq x y) _ (in_list x))))
+    (len_counts ys (remove d y) (λ x. let k = one x in omega arith)
+    (λ x. rw contains-remove (less_one (contains d x) (nat_eq x y) _ (in_list x))))
     (total_same _ _ ys (λ x k. rw contains-remove (not_that (contains d x) (nat_eq x y) _ k (one x))))
 
 at_most_one : (b : Bool) → bit b ≤ 1
@@ -115,7 +122,8 @@ listed_once a x = rw often-listed (at_most_one (contains a x))
 
 -- a part has as many members as the whole has of them
 pub len_within : (a d : Set) → IsPart d a → len d ≡ total (λ x. bit (contains d x)) (listed a)
-len_within a d h = len_counts (listed a) d (listed_once a) (λ x. rw often-listed (implied (contains d x) (contains a x) (h x)))
+len_within a d h = len_counts (listed a) d (listed_once a)
+    (λ x. rw often-listed (implied (contains d x) (contains a x) (h x)))
   where
     implied : (a b : Bool) → (a ≡ true → b ≡ true) → bit a ≤ bit b
     implied a b k = grind arith

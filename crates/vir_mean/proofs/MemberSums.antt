@@ -1,5 +1,6 @@
 -- Sums over lists of members.
-use Rattle.std.proofs.Common.{◌≡◌, ℕ, ◌+◌, ◌*◌, ◌<◌, ◌≤◌, Bool, true, false, cond, List, [], ◌∷◌, map, filter, nat_eq, refl, sym, ap, ◌∙◌, arith, pos, ◌+ℤ◌}
+use Rattle.std.proofs.Common.{◌≡◌, ℕ, ◌+◌, ◌*◌, ◌<◌, ◌≤◌, Bool, true, false, cond, List, [], ◌∷◌, map, filter, nat_eq}
+use Rattle.std.proofs.Common.{refl, sym, ap, ◌∙◌, arith, pos, ◌+ℤ◌}
 use Rattle.std.specs.FinSet.{contains, len}
 use Rattle.vir_altset.specs.Sets.{Set}
 use Rattle.vir_altset.specs.Splits.{bit}
@@ -19,7 +20,8 @@ often-listed_member a x member = often-listed a x ∙ ap bit member
 
 -- the number of members, as a sum of ones
 pub len-listed : (a : Set) → len a ≡ total (λ x. 1) (listed a)
-len-listed a = len_within a a (λ x member. member) ∙ total_same _ _ (listed a) (λ x some. ap bit (member_of_listed a x some))
+len-listed a = len_within a a (λ x member. member) ∙ total_same _ _ (listed a)
+    (λ x some. ap bit (member_of_listed a x some))
 
 pub total-zero : (list : List ℕ) → total (λ x. 0) list ≡ 0
 total-zero [] = refl
@@ -43,19 +45,23 @@ total-at x c (y ∷ rest) = step (nat_eq x y) (total (λ y. cond (nat_eq x y) c 
     step true n t later = omega arith
     step false n t later = omega arith
 
-pub total-filter : (f : ℕ → ℕ) (test : ℕ → Bool) (list : List ℕ) → total f (filter test list) ≡ total (λ x. cond (test x) (f x) 0) list
+pub total-filter : (f : ℕ → ℕ) (test : ℕ → Bool) (list : List ℕ) → total f (filter test list)
+    ≡ total (λ x. cond (test x) (f x) 0) list
 total-filter f test [] = refl
-total-filter f test (x ∷ rest) = step (test x) (filter test rest) (total (λ x. cond (test x) (f x) 0) rest) (total-filter f test rest)
+total-filter f test (x ∷ rest) = step (test x) (filter test rest) (total (λ x. cond (test x) (f x) 0) rest)
+    (total-filter f test rest)
   where
     step : (b : Bool) (kept : List ℕ) (n : ℕ) → total f kept ≡ n → total f (cond b (x ∷ kept) kept) ≡ cond b (f x) 0 + n
     step true kept n later = ap (λ m. f x + m) later
     step false kept n later = omega arith
 
 -- a sum of sums, by rows and by columns
-pub total-total : (f : ℕ → ℕ → ℕ) (rows columns : List ℕ) → total (λ x. total (f x) columns) rows ≡ total (λ y. total (λ x. f x y) rows) columns
+pub total-total : (f : ℕ → ℕ → ℕ) (rows columns : List ℕ) → total (λ x. total (f x) columns) rows
+    ≡ total (λ y. total (λ x. f x y) rows) columns
 total-total f [] columns = sym (total-zero columns)
 total-total f (x ∷ rows) columns =
-    ap (λ n. total (f x) columns + n) (total-total f rows columns) ∙ sym (total-plus (f x) (λ y. total (λ x. f x y) rows) columns)
+    ap (λ n. total (f x) columns + n) (total-total f rows columns)
+    ∙ sym (total-plus (f x) (λ y. total (λ x. f x y) rows) columns)
 
 pub total-le : (f g : ℕ → ℕ) (list : List ℕ) → ((x : ℕ) → 0 < often x list → f x ≤ g x) → total f list ≤ total g list
 total-le f g [] under = omega arith

@@ -1,5 +1,6 @@
 -- Weights of lines, and of restricted ones.
-use Rattle.std.proofs.Common.{◌≡◌, ◌≢◌, ℕ, suc, ◌+◌, ◌-◌, ◌<◌, ◌≤◌, Bool, true, false, cond, List, [], ◌∷◌, length, get_or, drop, nat_eq, refl, sym, ap, ◌∙◌, arith, add-one, eqb-true}
+use Rattle.std.proofs.Common.{◌≡◌, ◌≢◌, ℕ, suc, ◌+◌, ◌-◌, ◌<◌, ◌≤◌, Bool, true, false, cond, List, [], ◌∷◌, length}
+use Rattle.std.proofs.Common.{get_or, drop, nat_eq, refl, sym, ap, ◌∙◌, arith, add-one, eqb-true}
 use Rattle.std.proofs.Math.ListN.{set as put}
 use Rattle.std.proofs.Math.Seq.{drop-cons}
 use Rattle.std.proofs.lemmas.List.{get_or-set_other, get_or-set_same, drop_all}
@@ -32,7 +33,8 @@ total_weight-restrict d (line ∷ lines) =
     ∙ sym (sum_by-cons (λ e. e.weight) line lines)
 
 -- the first of the lines that are left counts where its order passes
-pub weight_where-drop : (test : List ℕ → Bool) (lines : List Entry) (i : ℕ) (line : Entry) → i < length lines → line ≡ get_or lines i line
+pub weight_where-drop : (test : List ℕ → Bool) (lines : List Entry) (i : ℕ) (line : Entry) → i < length lines → line
+    ≡ get_or lines i line
     → weight_where test (drop i lines) ≡ cond (test line.order) line.weight 0 + weight_where test (drop (i + 1) lines)
 weight_where-drop test lines i line within here =
     ap (weight_where test) (drop-cons lines i line within)
@@ -41,7 +43,8 @@ weight_where-drop test lines i line within here =
     ∙ ap (λ k. cond (test line.order) line.weight 0 + weight_where test (drop k lines)) (sym (add-one i))
 
 -- no lines are left
-pub weight_where-drop_all : (test : List ℕ → Bool) (lines : List Entry) (i : ℕ) → length lines ≤ i → weight_where test (drop i lines) ≡ 0
+pub weight_where-drop_all : (test : List ℕ → Bool) (lines : List Entry) (i : ℕ) → length lines ≤ i
+    → weight_where test (drop i lines) ≡ 0
 weight_where-drop_all test lines i end = ap (weight_where test) (drop_all i lines end)
 
 -- whether an order begins with x, by its first member
@@ -61,15 +64,21 @@ begins_with-same order x some same = begins_with-some order x some ∙ equal (ge
     equal y x same = grind (arith, nat_tests)
 
 -- the weight added at the first member of an order
-pub number_of-added : (weights order : List ℕ) (x y w : ℕ) → length weights ≡ limit → 1 ≤ x → x ≤ limit → 1 ≤ y → 0 < length order → get_or order 0 0 ≡ x
-    → number_of (put weights (x - 1) (get_or weights (x - 1) 0 + w)) y ≡ number_of weights y + cond (begins_with y order) w 0
-number_of-added weights order x y w size low high from some first = elim (nat_eq x y) as (λ b. nat_eq x y ≡ b → number_of (put weights (x - 1) (get_or weights (x - 1) 0 + w)) y ≡ number_of weights y + cond (begins_with y order) w 0) [
-  | true ↦ λ e. let same : x ≡ y = eqb-true x y e in
-      ap (λ z. get_or (put weights (x - 1) (get_or weights (x - 1) 0 + w)) (z - 1) 0) (sym same) ∙ get_or-set_same weights (x - 1) _ 0 (omega arith)
-      ∙ ap (λ z. get_or weights (z - 1) 0 + w) same ∙ ap (λ b. number_of weights y + cond b w 0) (sym (begins e))
-  | false ↦ λ e. let apart : x ≢ y = grind (arith, nat_tests) in
-      get_or-set_other weights (x - 1) (y - 1) _ 0 (omega arith) ∙ plus (number_of weights y) ∙ ap (λ b. number_of weights y + cond b w 0) (sym (begins e))
-] refl
+pub number_of-added : (weights order : List ℕ) (x y w : ℕ) → length weights ≡ limit → 1 ≤ x → x ≤ limit → 1 ≤ y
+    → 0 < length order → get_or order 0 0 ≡ x
+    → number_of (put weights (x - 1) (get_or weights (x - 1) 0 + w)) y ≡ number_of weights y
+    + cond (begins_with y order) w 0
+number_of-added weights order x y w size low high from some first = elim (nat_eq x y) as (λ b. nat_eq x y ≡ b
+    → number_of (put weights (x - 1) (get_or weights (x - 1) 0 + w)) y ≡ number_of weights y
+    + cond (begins_with y order) w 0) [
+      | true ↦ λ e. let same : x ≡ y = eqb-true x y e in
+          ap (λ z. get_or (put weights (x - 1) (get_or weights (x - 1) 0 + w)) (z - 1) 0) (sym same)
+          ∙ get_or-set_same weights (x - 1) _ 0 (omega arith)
+          ∙ ap (λ z. get_or weights (z - 1) 0 + w) same ∙ ap (λ b. number_of weights y + cond b w 0) (sym (begins e))
+      | false ↦ λ e. let apart : x ≢ y = grind (arith, nat_tests) in
+          get_or-set_other weights (x - 1) (y - 1) _ 0 (omega arith) ∙ plus (number_of weights y)
+          ∙ ap (λ b. number_of weights y + cond b w 0) (sym (begins e))
+    ] refl
   where
     plus : (n : ℕ) → n ≡ n + 0
     plus n = omega arith
@@ -78,8 +87,10 @@ number_of-added weights order x y w size low high from some first = elim (nat_eq
     begins e = begins_with-some order y some ∙ ap (λ z. nat_eq z y) first ∙ e
 
 -- an order whose first member is no alternative begins with none
-pub begins_with-outside : (order : List ℕ) (x y : ℕ) → 0 < length order → get_or order 0 0 ≡ x → x ≢ y → begins_with y order ≡ false
-begins_with-outside order x y some first apart = begins_with-some order y some ∙ ap (λ z. nat_eq z y) first ∙ differ x y apart
+pub begins_with-outside : (order : List ℕ) (x y : ℕ) → 0 < length order → get_or order 0 0 ≡ x → x ≢ y
+    → begins_with y order ≡ false
+begins_with-outside order x y some first apart = begins_with-some order y some ∙ ap (λ z. nat_eq z y) first
+    ∙ differ x y apart
   where
     differ : (x y : ℕ) → x ≢ y → nat_eq x y ≡ false
     differ x y apart = grind (arith, nat_tests)

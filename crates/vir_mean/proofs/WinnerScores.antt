@@ -1,5 +1,6 @@
 -- A Condorcet winner's scores, and those of the others.
-use Rattle.std.proofs.Common.{◌≡◌, ◌≢◌, ℕ, ◌+◌, ◌-◌, ◌<◌, ◌≤◌, min, Bool, true, false, cond, not, ◌&&◌, ◌||◌, List, [], ◌∷◌, nat_eq, nat_lt, refl, sym, ap, ◌∙◌, arith, eqb-true, pos, ◌-ℤ◌, ◌<ℤ◌}
+use Rattle.std.proofs.Common.{◌≡◌, ◌≢◌, ℕ, ◌+◌, ◌-◌, ◌<◌, ◌≤◌, min, Bool, true, false, cond, not, ◌&&◌, ◌||◌, List, []}
+use Rattle.std.proofs.Common.{◌∷◌, nat_eq, nat_lt, refl, sym, ap, ◌∙◌, arith, eqb-true, pos, ◌-ℤ◌, ◌<ℤ◌}
 use Rattle.std.proofs.lemmas.Bool.Decides.{nat_tests}
 use Rattle.std.proofs.lemmas.Int.{ints}
 use Rattle.std.specs.FinSet.{contains, items, empty, remove, retain, len}
@@ -44,7 +45,8 @@ least-le f (y ∷ []) x some = only (nat_eq x y) (λ e. ap f (eqb-true x y e)) s
   where
     only : (b : Bool) {m n : ℕ} → (b ≡ true → m ≡ n) → 0 < bit b + 0 → n ≤ m
     only b same some = grind (arith, same)
-least-le f (y ∷ z ∷ rest) x some = step (nat_eq x y) (often x (z ∷ rest)) (least f (z ∷ rest)) (λ e. ap f (eqb-true x y e)) (least-le f (z ∷ rest) x) some
+least-le f (y ∷ z ∷ rest) x some = step (nat_eq x y) (often x (z ∷ rest)) (least f (z ∷ rest))
+    (λ e. ap f (eqb-true x y e)) (least-le f (z ∷ rest) x) some
   where
     step : (b : Bool) (t l : ℕ) {m n : ℕ} → (b ≡ true → m ≡ n) → (0 < t → l ≤ m) → 0 < bit b + t → min n l ≤ m
     step b t l same later some = grind (arith, same, later)
@@ -66,20 +68,28 @@ least-at f x (y ∷ rest) = more (least-at f y rest)
     large m n less = grind (arith, nat_tests)
 
     more : LeastAt f (y ∷ rest) → LeastAt f (x ∷ y ∷ rest)
-    more before = elim (nat_lt (f x) (least f (y ∷ rest))) as (λ b. nat_lt (f x) (least f (y ∷ rest)) ≡ b → LeastAt f (x ∷ y ∷ rest)) [
-      | true ↦ λ e. record { place = x; listed = at_head x (y ∷ rest); value = small _ _ e }
-      | false ↦ λ e. record { place = before.place; listed = (let some = before.listed in omega arith); value = large _ _ e ∙ before.value }
-    ] refl
+    more before = elim (nat_lt (f x) (least f (y ∷ rest))) as (λ b. nat_lt (f x) (least f (y ∷ rest)) ≡ b
+        → LeastAt f (x ∷ y ∷ rest)) [
+          | true ↦ λ e. record { place = x; listed = at_head x (y ∷ rest); value = small _ _ e }
+          | false ↦ λ e. record {
+            place = before.place;
+            listed = (let some = before.listed in omega arith);
+            value = large _ _ e ∙ before.value;
+          }
+        ] refl
 
 -- the other members of a set
 pub others_of : (x : ℕ) (a : Set) (y : ℕ) → contains a y ≡ true → nat_eq y x ≡ false → 0 < often y (others x a)
-others_of x a y member other = step (nat_eq y x) (contains a y) (often y (others x a)) ((others_list a x).each y ∙ ap bit (contains-remove a x y)) member other
+others_of x a y member other = step (nat_eq y x) (contains a y) (often y (others x a)) ((others_list a x).each y
+    ∙ ap bit (contains-remove a x y)) member other
   where
     step : (b c : Bool) (n : ℕ) → n ≡ bit (not b && c) → c ≡ true → b ≡ false → 0 < n
     step b c n is member other = grind arith
 
-pub member_of_others : (x : ℕ) (a : Set) (y : ℕ) → 0 < often y (others x a) → (contains a y ≡ true) × (nat_eq y x ≡ false)
-member_of_others x a y some = step (nat_eq y x) (contains a y) (often y (others x a)) ((others_list a x).each y ∙ ap bit (contains-remove a x y)) some
+pub member_of_others : (x : ℕ) (a : Set) (y : ℕ) → 0 < often y (others x a) → (contains a y ≡ true)
+    × (nat_eq y x ≡ false)
+member_of_others x a y some = step (nat_eq y x) (contains a y) (often y (others x a)) ((others_list a x).each y
+    ∙ ap bit (contains-remove a x y)) some
   where
     step : (b c : Bool) (n : ℕ) → n ≡ bit (not b && c) → 0 < n → (c ≡ true) × (b ≡ false)
     step b c n is some = (grind arith, grind arith)
@@ -89,7 +99,8 @@ least_other f [] y some = absurd (omega arith)
 least_other f (x ∷ rest) y some = least-at f x rest
 
 -- ---- tests of each member
-all_pass : (test : ℕ → Bool) (list : List ℕ) → ((y : ℕ) → list_any (nat_eq y) list ≡ true → test y ≡ true) → list_all test list ≡ true
+all_pass : (test : ℕ → Bool) (list : List ℕ) → ((y : ℕ) → list_any (nat_eq y) list ≡ true → test y ≡ true)
+    → list_all test list ≡ true
 all_pass test [] each = refl
 all_pass test (x ∷ rest) each =
     both _ _ (each x (first x (list_any (nat_eq x) rest))) (all_pass test rest (λ y later. each y (further _ _ later)))
@@ -103,9 +114,11 @@ all_pass test (x ∷ rest) each =
     both : (b c : Bool) → b ≡ true → c ≡ true → (b && c) ≡ true
     both b c one other = grind arith
 
-one_fails : (test : ℕ → Bool) (list : List ℕ) (x : ℕ) → list_any (nat_eq x) list ≡ true → test x ≡ false → list_all test list ≡ false
+one_fails : (test : ℕ → Bool) (list : List ℕ) (x : ℕ) → list_any (nat_eq x) list ≡ true → test x ≡ false
+    → list_all test list ≡ false
 one_fails test [] x listed fails = cc listed
-one_fails test (y ∷ rest) x listed fails = step (nat_eq x y) (list_any (nat_eq x) rest) (test y) (list_all test rest) listed (λ e. ap test (sym (eqb-true x y e)) ∙ fails) (λ later. one_fails test rest x later fails)
+one_fails test (y ∷ rest) x listed fails = step (nat_eq x y) (list_any (nat_eq x) rest) (test y) (list_all test rest)
+    listed (λ e. ap test (sym (eqb-true x y e)) ∙ fails) (λ later. one_fails test rest x later fails)
   where
     step : (e l t r : Bool) → (e || l) ≡ true → (e ≡ true → t ≡ false) → (l ≡ true → r ≡ false) → (t && r) ≡ false
     step e l t r listed here later = grind arith
@@ -119,7 +132,8 @@ module _ (a : Set) (lines : List Entry) (w : ℕ) (winner : IsCondorcetWinner w 
   winner_won : retain a (λ y. beats lines w y) ≡ remove a w
   winner_won = same_members _ _ (λ y.
       contains-retain a (λ y. beats lines w y) y
-      ∙ step (contains a y) (beats lines w y) (nat_eq y w) (λ e. ap (beats lines w) (eqb-true y w e) ∙ beats-self lines w) (winner_beats y)
+      ∙ step (contains a y) (beats lines w y) (nat_eq y w) (λ e. ap (beats lines w) (eqb-true y w e)
+      ∙ beats-self lines w) (winner_beats y)
       ∙ sym (contains-remove a w y))
     where
       step : (m b e : Bool) → (e ≡ true → b ≡ false) → (m ≡ true → e ≡ false → b ≡ true) → (m && b) ≡ (not e && m)
@@ -128,7 +142,8 @@ module _ (a : Set) (lines : List Entry) (w : ℕ) (winner : IsCondorcetWinner w 
   winner_lost : retain a (λ y. beats lines y w) ≡ empty
   winner_lost = same_members _ _ (λ y.
       contains-retain a (λ y. beats lines y w) y
-      ∙ step (contains a y) (beats lines y w) (nat_eq y w) (λ e. ap (λ z. beats lines z w) (eqb-true y w e) ∙ beats-self lines w) (λ member other. beats-turned lines w y (winner_beats y member other))
+      ∙ step (contains a y) (beats lines y w) (nat_eq y w) (λ e. ap (λ z. beats lines z w) (eqb-true y w e)
+      ∙ beats-self lines w) (λ member other. beats-turned lines w y (winner_beats y member other))
       ∙ sym (contains-empty y))
     where
       step : (m b e : Bool) → (e ≡ true → b ≡ false) → (m ≡ true → e ≡ false → b ≡ false) → (m && b) ≡ false
@@ -138,7 +153,8 @@ module _ (a : Set) (lines : List Entry) (w : ℕ) (winner : IsCondorcetWinner w 
   won_part : (y : ℕ) → IsPart (retain a (λ z. beats lines y z)) (remove a y)
   won_part y z won =
       contains-remove a y z
-      ∙ step (contains a z) (beats lines y z) (nat_eq z y) (λ e. ap (beats lines y) (eqb-true z y e) ∙ beats-self lines y) (sym (contains-retain a (λ z. beats lines y z) z) ∙ won)
+      ∙ step (contains a z) (beats lines y z) (nat_eq z y) (λ e. ap (beats lines y) (eqb-true z y e)
+      ∙ beats-self lines y) (sym (contains-retain a (λ z. beats lines y z) z) ∙ won)
     where
       step : (m b e : Bool) → (e ≡ true → b ≡ false) → (m && b) ≡ true → (not e && m) ≡ true
       step m b e self won = grind arith
@@ -153,13 +169,15 @@ module _ (a : Set) (lines : List Entry) (w : ℕ) (winner : IsCondorcetWinner w 
         let most = len-part _ _ (won_part y) in
         let room = len-remove a y ∙ ap (λ b. cond b (len a - 1) (len a)) member in
         let none = ap len winner_lost ∙ len-empty in
-        let some = len_of_member (retain a (λ z. beats lines z y)) w (contains-retain a (λ z. beats lines z y) w ∙ both _ _ winner.member (winner_beats y member other)) in
+        let some = len_of_member (retain a (λ z. beats lines z y)) w (contains-retain a (λ z. beats lines z y) w
+        ∙ both _ _ winner.member (winner_beats y member other)) in
         step _ _ _ _ _ all (omega arith) none some
       where
         both : (b c : Bool) → b ≡ true → c ≡ true → (b && c) ≡ true
         both b c first second = grind arith
 
-        step : (ahead behind won lost n : ℕ) → ahead ≡ n → won ≤ n → behind ≡ 0 → 1 ≤ lost → (pos won -ℤ pos lost) <ℤ (pos ahead -ℤ pos behind)
+        step : (ahead behind won lost n : ℕ) → ahead ≡ n → won ≤ n → behind ≡ 0 → 1 ≤ lost → (pos won -ℤ pos lost) <ℤ
+            (pos ahead -ℤ pos behind)
         step ahead behind won lost n all most none some = omega (arith, ints)
 
     pub minimax_leads : IsProfileOn a lines → score Minimax a lines y <ℤ score Minimax a lines w
@@ -169,7 +187,8 @@ module _ (a : Set) (lines : List Entry) (w : ℕ) (winner : IsCondorcetWinner w 
         let there = member_of_others w a z least_of_winner.listed in
         let won = winner.wins z there.0 (eq_apart z w there.1) in
         let whole = pairwise_weight-both a w z (eq_flip w z ∙ there.1) winner.member lines on in
-        let under = least-le (pairwise_weight lines y) (others y a) w (others_of y a w winner.member (eq_flip w y ∙ other)) in
+        let under = least-le (pairwise_weight lines y) (others y a) w
+        (others_of y a w winner.member (eq_flip w y ∙ other)) in
         let lost = winner.wins y member apart in
         let whole_too = pairwise_weight-both a w y (eq_flip w y ∙ other) winner.member lines on in
         let value = least_of_winner.value in
@@ -180,7 +199,8 @@ module _ (a : Set) (lines : List Entry) (w : ℕ) (winner : IsCondorcetWinner w 
 
     pub condorcet_leads : score Condorcet a lines y <ℤ score Condorcet a lines w
     condorcet_leads = step (beats_all y a lines) (beats_all w a lines)
-        (one_fails _ (items a) w (sym (in_items a w) ∙ winner.member) (neither _ _ (eq_flip w y ∙ other) (beats-turned lines w y (winner_beats y member other))))
+        (one_fails _ (items a) w (sym (in_items a w) ∙ winner.member) (neither _ _ (eq_flip w y ∙ other)
+        (beats-turned lines w y (winner_beats y member other))))
         (all_pass _ (items a) (λ z listed. either _ _ (winner_beats z (in_items a z ∙ listed))))
       where
         neither : (b c : Bool) → b ≡ false → c ≡ false → (b || c) ≡ false

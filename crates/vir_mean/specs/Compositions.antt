@@ -1,14 +1,19 @@
 -- The meanings of compositions, by the meanings of their parts.
 use Rattle.std.specs.Prelude.{◌≡◌, ℕ, zero, suc, ◌≤◌, Bool, ◌||◌, nat_eq, nat_le, if◌then◌else◌}
 use Rattle.std.specs.FinSet as set
+use Rattle.vir_altset.specs.Sets.{Set}
 use Rattle.vir_altset.specs.declared.split.Split.{Split}
 use Rattle.vir_profile.specs.Profiles.{restrict}
 use Rattle.vir_term.specs.Tree.{End, exactly, at_most}
 use Rattle.vir_mean.specs.Modules.{Meaning, all_deferred}
 
--- revision: what is elected is deferred, and all others are rejected
+-- the revision of a split of a set: those elected are deferred, and all others are rejected
+abbrev pub revised : Set → Split → Split
+revised a split = record { elected = set.empty; rejected = set.difference a split.elected; deferred = split.elected }
+
+-- revision: what a part gives is revised
 abbrev pub rev_of : Meaning → Meaning
-rev_of part a lines = record { elected = set.empty; rejected = set.difference a (part a lines).elected; deferred = (part a lines).elected }
+rev_of part a lines = revised a (part a lines)
 
 -- a split of a set, and one of what the first defers, as one split of the set
 abbrev pub joined : Split → Split → Split
@@ -40,13 +45,13 @@ abbrev pub is_end : End → ℕ → Bool
 is_end (exactly k) size = nat_eq size k
 is_end (at_most k) size = nat_le size k
 
--- It ends there: as a statement.
+-- The same as a statement: it ends at a set of this size.
 abbrev pub IsEnd : End → ℕ → Type 0
 IsEnd (exactly k) size = size ≡ k
 IsEnd (at_most k) size = size ≤ k
 
--- One turn of a loop: it ends where the set is small enough, or the body defers all of it; else it goes on with
--- what the body defers.
+-- One turn of a loop: it ends where the set has the size to end at, or the body defers all of it; else it goes on
+-- with what the body defers.
 abbrev pub turn : End → Meaning → Meaning → Meaning
 turn k body next a lines =
     if is_end k (set.len a) || set.is_subset a (body a lines).deferred

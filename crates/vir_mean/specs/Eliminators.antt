@@ -10,6 +10,7 @@ use Rattle.vir_mean.specs.declared.elimination.Elimination.{Elimination}
 use Rattle.vir_mean.specs.declared.elimination.Elimination.TheVariants.{Max, Min, Below, Upto}
 use Rattle.vir_mean.specs.Listings.{listed}
 use Rattle.vir_mean.specs.Scores.{score}
+use Rattle.vir_mean.specs.Undecided.{undecided}
 
 -- the sum of whole numbers
 abbrev pub sum : List ℤ → ℤ
@@ -42,7 +43,7 @@ goes Upto f a x = int_le (scaled f a x) (sum_of f a)
 -- these are rejected and the others deferred; or all are deferred, where these are all
 abbrev pub eliminated : Set → Set → Split
 eliminated a gone =
-    if set.is_subset a gone then record { elected = set.empty; rejected = set.empty; deferred = a }
+    if set.is_subset a gone then undecided a
     else record { elected = set.empty; rejected = gone; deferred = set.difference a gone }
 
 -- those that are to go by a score are eliminated

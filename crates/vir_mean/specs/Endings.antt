@@ -3,7 +3,7 @@ use Rattle.vir_term.specs.Tree.{End, exactly, at_most}
 use Rattle.vir_mean.specs.declared.ending.Ending.{Ending}
 use Rattle.vir_mean.specs.declared.ending.Ending.TheVariants.{Exactly, AtMost}
 
--- the end that is meant
+-- the end of a loop that a value of the code stands for
 abbrev pub end_of : Ending → End
 end_of (Exactly k) = exactly k
 end_of (AtMost k) = at_most k

@@ -1,5 +1,6 @@
 pub mod Listings
 pub mod Scores
+pub mod Undecided
 pub mod Eliminators
 pub mod FixedOrders
 pub mod Modules

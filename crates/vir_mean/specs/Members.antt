@@ -8,4 +8,5 @@ use Rattle.vir_profile.specs.Orders.{IsListing}
 pub record AreMembers (a : Set) (list : List ℕ) : Type 0 where
   pub few : length list ≤ limit
   pub listing : IsListing a list
-  pub each : (i : ℕ) → i < length list → (set.contains a (slice_index list i) ≡ true) × (1 ≤ slice_index list i) × (slice_index list i ≤ limit)
+  pub each : (i : ℕ) → i < length list → (set.contains a (slice_index list i) ≡ true) × (1 ≤ slice_index list i)
+      × (slice_index list i ≤ limit)

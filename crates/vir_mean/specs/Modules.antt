@@ -10,6 +10,7 @@ use Rattle.vir_mean.specs.declared.elimination.Elimination.TheVariants.{Max, Min
 use Rattle.vir_mean.specs.Scores.{plurality_score}
 use Rattle.vir_mean.specs.Eliminators.{is_passed, eliminator}
 use Rattle.vir_mean.specs.FixedOrders.{first_members}
+use Rattle.vir_mean.specs.Undecided.{undecided}
 
 -- a meaning: for each set and each profile on it, a split of the set
 abbrev pub Meaning : Type 0
@@ -21,17 +22,27 @@ all_elected a lines = record { elected = a; rejected = set.empty; deferred = set
 
 -- all are deferred
 abbrev pub all_deferred : Meaning
-all_deferred a lines = record { elected = set.empty; rejected = set.empty; deferred = a }
+all_deferred a lines = undecided a
 
 -- the first k in a fixed order are deferred, and the others rejected
 abbrev pub first_passed : ℕ → List ℕ → Meaning
 first_passed k order a lines =
-    record { elected = set.empty; rejected = set.difference a (first_members k order a); deferred = first_members k order a }
+    record {
+      elected = set.empty;
+      rejected = set.difference a (first_members k order a);
+      deferred =
+          first_members k order a;
+    }
 
 -- the first k in a fixed order are rejected, and the others deferred
 abbrev pub first_dropped : ℕ → List ℕ → Meaning
 first_dropped k order a lines =
-    record { elected = set.empty; rejected = first_members k order a; deferred = set.difference a (first_members k order a) }
+    record {
+      elected = set.empty;
+      rejected = first_members k order a;
+      deferred =
+          set.difference a (first_members k order a);
+    }
 
 -- the members that most voters put first: no member is put first by more
 abbrev pub plurality_winners : Set → List Entry → Set
@@ -40,7 +51,12 @@ plurality_winners a lines = set.retain a (λ x. not (is_passed (plurality_score 
 -- these are elected, and the others rejected
 abbrev pub winners_elected : Meaning
 winners_elected a lines =
-    record { elected = plurality_winners a lines; rejected = set.difference a (plurality_winners a lines); deferred = set.empty }
+    record {
+      elected = plurality_winners a lines;
+      rejected = set.difference a (plurality_winners a lines);
+      deferred =
+          set.empty;
+    }
 
 -- the meaning of a module
 abbrev pub leaf_mean : Leaf → Meaning

@@ -26,8 +26,13 @@ renamed_lines f lines = map (renamed_line f) lines
 
 -- the split with f of each of its sets
 abbrev pub renamed_split : (ℕ → ℕ) → Split → Split
-renamed_split f s = record { elected = renamed_set f s.elected; rejected = renamed_set f s.rejected; deferred = renamed_set f s.deferred }
+renamed_split f s = record {
+  elected = renamed_set f s.elected;
+  rejected = renamed_set f s.rejected;
+  deferred = renamed_set f s.deferred;
+}
 
--- Names make no difference: of what is renamed, the split is what is renamed of the split.
+-- Names make no difference: where a set and a profile on it are renamed, the split is the renamed split.
 abbrev pub IsNeutral : Meaning → Type 0
-IsNeutral m = (a : Set) (p : List Entry) (f : ℕ → ℕ) → IsElection a p → IsRenaming f a → m (renamed_set f a) (renamed_lines f p) ≡ renamed_split f (m a p)
+IsNeutral m = (a : Set) (p : List Entry) (f : ℕ → ℕ) → IsElection a p → IsRenaming f a
+    → m (renamed_set f a) (renamed_lines f p) ≡ renamed_split f (m a p)

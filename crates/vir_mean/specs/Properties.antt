@@ -1,4 +1,5 @@
--- What each property says of a meaning: on every finite set, and every profile on it of whatever size.
+-- What each property says of a meaning: on every finite set of alternatives, which are numbers from 1 on, and every
+-- profile on it of whatever size.
 use Rattle.std.specs.Prelude.{◌≡◌, ◌≢◌, ◌⊎◌, ℕ, ◌<◌, ◌≤◌, true, false, List}
 use Rattle.std.specs.FinSet as set
 use Rattle.vir_altset.specs.Sets.{Set}
@@ -7,7 +8,8 @@ use Rattle.vir_profile.specs.declared.ballot.Entry.{Entry}
 use Rattle.vir_profile.specs.Elections.{IsElection}
 use Rattle.vir_profile.specs.Winners.{IsCondorcetWinner}
 use Rattle.vir_term.specs.declared.prop.Prop.{Prop}
-use Rattle.vir_term.specs.declared.prop.Prop.TheVariants.{Ne, Ea, El, Defers, Rejects, Elim, Nb, Decr, Dli, Imono, Dimono, Dmono, Mono, Cc, Dcc, Cprog, Ccomp, Neut}
+use Rattle.vir_term.specs.declared.prop.Prop.TheVariants.{Ne, Ea, El, Defers, Rejects, Elim, Nb, Decr, Dli, Imono}
+use Rattle.vir_term.specs.declared.prop.Prop.TheVariants.{Dimono, Dmono, Mono, Cc, Dcc, Cprog, Ccomp, Neut}
 use Rattle.vir_mean.specs.Lifts.{Lifts}
 use Rattle.vir_mean.specs.Modules.{Meaning}
 use Rattle.vir_mean.specs.Neutrality.{IsNeutral}
@@ -19,7 +21,8 @@ OnEach m Says = (a : Set) (p : List Entry) → IsElection a p → Says a (m a p)
 -- It holds of each member x, and the splits before and after x is lifted.
 abbrev pub OnLifts : Meaning → (ℕ → Split → Split → Type 0) → Type 0
 OnLifts m Says =
-    (a : Set) (p q : List Entry) (x : ℕ) → IsElection a p → IsElection a q → set.contains a x ≡ true → Lifts x p q → Says x (m a p) (m a q)
+    (a : Set) (p q : List Entry) (x : ℕ) → IsElection a p → IsElection a q → set.contains a x ≡ true → Lifts x p q
+    → Says x (m a p) (m a q)
 
 -- It holds of each Condorcet winner w, its set, and the split.
 abbrev pub OnWinners : Meaning → (ℕ → Set → Split → Type 0) → Type 0
@@ -61,11 +64,20 @@ Holds Nb m = OnEach m (λ a s. a ≢ set.empty → s.rejected ≢ a)
 Holds Decr m = OnEach m (λ a s. 2 ≤ set.len a → s.rejected ≢ set.empty)
 Holds Dli m = OnLifts m (λ x s t. set.contains s.deferred x ≡ true → t ≡ s)
 Holds Imono m = OnLifts m (λ x s t. set.contains s.elected x ≡ true → StaysOrBecomes x s.elected t.elected)
-Holds Dimono m = ElectsNobody m × OnLifts m (λ x s t. set.contains s.deferred x ≡ true → StaysOrBecomes x s.deferred t.deferred)
+Holds Dimono m = ElectsNobody m × OnLifts m (λ x s t. set.contains s.deferred x ≡ true → StaysOrBecomes x s.deferred
+    t.deferred)
 Holds Dmono m = OnLifts m (λ x s t. set.contains s.deferred x ≡ true → set.contains t.deferred x ≡ true)
 Holds Mono m = OnLifts m (λ x s t. set.contains s.elected x ≡ true → set.contains t.elected x ≡ true)
-Holds Cc m = OnWinners m (λ w a s. s ≡ record { elected = just w; rejected = set.difference a (just w); deferred = set.empty })
-Holds Dcc m = OnWinners m (λ w a s. s ≡ record { elected = set.empty; rejected = set.difference a (just w); deferred = just w })
+Holds Cc m = OnWinners m (λ w a s. s ≡ record {
+  elected = just w;
+  rejected = set.difference a (just w);
+  deferred = set.empty;
+})
+Holds Dcc m = OnWinners m (λ w a s. s ≡ record {
+  elected = set.empty;
+  rejected = set.difference a (just w);
+  deferred = just w;
+})
 Holds Cprog m = OnWinners m MakesProgress
 Holds Ccomp m = OnWinners m IsCompatible
 Holds Neut m = IsNeutral m

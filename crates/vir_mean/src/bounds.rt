@@ -11,7 +11,7 @@ use crate::elimination::Elimination;
 use vir_profile::AltSet;
 
 // The greatest so far, with one score more.
-fn raised(greatest: Option<i128>, score: i128) -> Option<i128>
+fn greater_of(greatest: Option<i128>, score: i128) -> Option<i128>
     ensures { result ≡ raised greatest score }
 {
     match greatest {
@@ -21,7 +21,7 @@ fn raised(greatest: Option<i128>, score: i128) -> Option<i128>
 }
 
 // The least so far, with one score more.
-fn sunk(least: Option<i128>, score: i128) -> Option<i128>
+fn lesser_of(least: Option<i128>, score: i128) -> Option<i128>
     ensures { result ≡ sunk least score }
 {
     match least {
@@ -38,7 +38,7 @@ fn greatest_score(domain: &AltSet, members: &[u16], scores: &[i128]) -> i128
 {
     let mut greatest = None;
     for x in members {
-        greatest = raised(greatest, scores[usize::from(*x) - 1]);
+        greatest = greater_of(greatest, scores[usize::from(*x) - 1]);
     }
     greatest.unwrap_or(0)
 }
@@ -51,7 +51,7 @@ fn least_score(domain: &AltSet, members: &[u16], scores: &[i128]) -> i128
 {
     let mut least = None;
     for x in members {
-        least = sunk(least, scores[usize::from(*x) - 1]);
+        least = lesser_of(least, scores[usize::from(*x) - 1]);
     }
     least.unwrap_or(0)
 }
@@ -75,7 +75,9 @@ pub(crate) fn bound_of(kind: Elimination, domain: &AltSet, members: &[u16], scor
     requires members { AreMembers domain.now members.now }
     requires size { length scores.now ≡ limit }
     requires small { AreSmall domain.now scores.now }
-    ensures { (x : ℕ) → set.contains domain.now x ≡ true → goes_by kind (score_of scores.now x) result (pos (set.len domain.now)) ≡ goes kind (score_of scores.now) domain.now x }
+    ensures { (x : ℕ) → set.contains domain.now x ≡ true
+        → goes_by kind (score_of scores.now x) result (pos (set.len domain.now))
+        ≡ goes kind (score_of scores.now) domain.now x }
 {
     match kind {
         Elimination::Max => greatest_score(domain, members, scores),

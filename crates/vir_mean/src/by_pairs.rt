@@ -1,5 +1,4 @@
-// The scores of one member of a set that go by pairs, of which other members it stands before at how
-// many voters.
+// The scores of one member of a set that go by pairs: by how many voters put it before each other member.
 ghost use Rattle.std.specs.Prelude.{◌≡◌, ◌≢◌, ◌≤◌, true};
 ghost use Rattle.std.specs.FinSet as set;
 ghost use Rattle.vir_mean.specs.Members.{AreMembers};
@@ -44,7 +43,7 @@ pub(crate) fn copeland<T: Tally>(tally: &T, domain: &AltSet, members: &[u16], x:
 }
 
 // The least so far, with one number more.
-fn lowered(least: Option<u64>, number: u64) -> Option<u64>
+fn fewer_of(least: Option<u64>, number: u64) -> Option<u64>
     ensures { result ≡ lowered least number }
 {
     match least {
@@ -63,7 +62,7 @@ pub(crate) fn minimax<T: Tally>(tally: &T, domain: &AltSet, members: &[u16], x: 
     let mut least = None;
     for y in members {
         if *y != x {
-            least = lowered(least, tally.prefers(domain, x, *y));
+            least = fewer_of(least, tally.prefers(domain, x, *y));
         }
     }
     i128::from(least.unwrap_or(0))

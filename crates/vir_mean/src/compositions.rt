@@ -1,12 +1,11 @@
 // What compositions make of the splits of their parts.
 ghost use Rattle.std.specs.Prelude.{◌≡◌};
-ghost use Rattle.std.specs.FinSet as set;
-ghost use Rattle.vir_mean.specs.Compositions.{joined, merged};
+ghost use Rattle.vir_mean.specs.Compositions.{joined, merged, revised};
 
 use vir_profile::{AltSet, Split};
 
 /// A split of a set, and one of what it defers, as one split of the set.
-pub fn joined(first: &Split, second: &Split) -> Split
+pub fn join_in_sequence(first: &Split, second: &Split) -> Split
     ensures { result ≡ joined first.now second.now }
 {
     Split {
@@ -17,7 +16,7 @@ pub fn joined(first: &Split, second: &Split) -> Split
 }
 
 /// Two splits of one set as one: elected by one of them, rejected by both, and else deferred.
-pub fn merged(first: &Split, second: &Split) -> Split
+pub fn join_in_parallel(first: &Split, second: &Split) -> Split
     ensures { result ≡ merged first.now second.now }
 {
     let elected = first.elected.union(&second.elected);
@@ -28,10 +27,10 @@ pub fn merged(first: &Split, second: &Split) -> Split
     }
 }
 
-/// What is made of a split of a set where it is revised: those elected are deferred, and the other
-/// members of the set are rejected.
-pub fn revised(split: &Split, domain: &AltSet) -> Split
-    ensures { result ≡ record { elected = set.empty; rejected = set.difference domain.now split.now.elected; deferred = split.now.elected } }
+/// The revision of a split of a set: those elected are deferred, and the other members of the set are
+/// rejected.
+pub fn revise(split: &Split, domain: &AltSet) -> Split
+    ensures { result ≡ revised domain.now split.now }
 {
     Split {
         elected: AltSet::empty(),

@@ -1,3 +1,4 @@
+// The modules that go by scores: the four eliminators, and the election of those most often put first.
 ghost use Rattle.std.specs.Prelude.{◌≡◌, ◌≤◌, pos, ◌≤ℤ◌, length};
 ghost use Rattle.std.specs.FinSet as set;
 ghost use Rattle.vir_altset.specs.Sets.{limit};
@@ -11,6 +12,7 @@ ghost use Rattle.vir_mean.specs.Extremes.{goes_by};
 use crate::bounds::bound_of;
 use crate::members::list_members;
 use crate::scores::fill_scores;
+use crate::simple_splits::{defer_all, elect_none};
 use crate::tally::{PLACES, Tally};
 use vir_profile::{AltSet, Split};
 use vir_term::Score;
@@ -63,9 +65,15 @@ fn find_gone(kind: Elimination, domain: &AltSet, members: &[u16], scores: &[i128
 }
 
 // The members that go by their scores of this name.
-fn gone_by_score<T: Tally>(kind: Elimination, named: Score, tally: &T, domain: &AltSet) -> AltSet
+fn find_gone_by_score<T: Tally>(
+    kind: Elimination,
+    named: Score,
+    tally: &T,
+    domain: &AltSet,
+) -> AltSet
     requires { T.may tally.now domain.now }
-    ensures { result ≡ set.retain domain.now (goes kind (score named domain.now (T.lines tally.now domain.now)) domain.now) }
+    ensures { result
+        ≡ set.retain domain.now (goes kind (score named domain.now (T.lines tally.now domain.now)) domain.now) }
 {
     let mut list = [0u16; PLACES];
     let count = list_members(domain, &mut list);
@@ -81,17 +89,9 @@ fn split_of(domain: &AltSet, gone: AltSet) -> Split
 {
     let left = domain.minus(&gone);
     if left.equals(&AltSet::empty()) {
-        return Split {
-            elected: AltSet::empty(),
-            rejected: AltSet::empty(),
-            deferred: *domain,
-        };
+        return defer_all(domain);
     }
-    Split {
-        elected: AltSet::empty(),
-        rejected: gone,
-        deferred: left,
-    }
+    elect_none(&gone, &left)
 }
 
 /// The split of an eliminator by the scores that the members of a set have, that of x at place x - 1.
@@ -115,7 +115,7 @@ pub fn eliminate<T: Tally>(kind: Elimination, named: Score, tally: &T, domain: &
     requires { T.may tally.now domain.now }
     ensures { result ≡ eliminator kind named domain.now (T.lines tally.now domain.now) }
 {
-    split_of(domain, gone_by_score(kind, named, tally, domain))
+    split_of(domain, find_gone_by_score(kind, named, tally, domain))
 }
 
 /// The split that elects those that most voters put first, and rejects the others. It goes over the
@@ -124,7 +124,7 @@ pub fn elect_plurality_winners<T: Tally>(tally: &T, domain: &AltSet) -> Split
     requires { T.may tally.now domain.now }
     ensures { result ≡ winners_elected domain.now (T.lines tally.now domain.now) }
 {
-    let passed = gone_by_score(Elimination::Max, Score::Plurality, tally, domain);
+    let passed = find_gone_by_score(Elimination::Max, Score::Plurality, tally, domain);
     Split {
         elected: domain.minus(&passed),
         rejected: passed,

@@ -1,3 +1,4 @@
+// The first members of a set in a fixed order.
 ghost use Rattle.std.specs.Prelude.{◌≡◌};
 ghost use Rattle.std.specs.FinSet as set;
 ghost use Rattle.vir_mean.specs.FixedOrders.{place, is_ahead, first_members};

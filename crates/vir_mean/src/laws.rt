@@ -1,5 +1,5 @@
 // What holds of meanings on profiles of every size. Each law is the contract of a function that does nothing.
-ghost use Rattle.std.specs.Prelude.{◌≡◌, ℕ, ◌+◌, ◌≤◌, List, [], ◌∷◌, ◌++◌};
+ghost use Rattle.std.specs.Prelude.{◌≡◌, true, ℕ, ◌+◌, ◌≤◌, List, [], ◌∷◌, ◌++◌};
 ghost use Rattle.std.specs.FinSet as set;
 ghost use Rattle.vir_altset.specs.Sets.{Set};
 ghost use Rattle.vir_altset.specs.Splits.{IsSplitOf};
@@ -48,6 +48,11 @@ pub fn until_of_few_alternatives_stops()
 /// past that number, as `pass(1)` does on three alternatives where two are to be left.
 pub fn loop_may_stop_below_its_number()
     ensures { Holds (Defers 2) (mean (loop (exactly 2) (leaf (PassFirst 1 [])))) → ⊥ }
+{}
+
+/// The alternatives of an election are numbers from 1 on.
+pub fn alternatives_are_numbers_from_1_on()
+    ensures { (a : Set) (p : List Entry) (x : ℕ) → IsElection a p → set.contains a x ≡ true → 1 ≤ x }
 {}
 
 /// Where an election's alternatives get other names, from 1 on, it is an election still.

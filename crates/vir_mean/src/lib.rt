@@ -9,10 +9,11 @@
 //! names do, over whatever tallies the ballots (`Tally`); and for every term, set and profile the
 //! meaning splits the set, so that on no alternatives it is three empty sets, a loop goes turn by turn,
 //! and a line of the profile may be split (`laws.rt`). What properties say of a meaning is defined here
-//! too (`Properties.antt`, with `Lifts.antt` and `Disjointness.antt`), and what they rest on is proved: a
-//! lift, which moves one alternative towards the front of ballots and changes nothing else, never lowers
-//! a score of that alternative nor raises one of another (`lift_laws.rt`); and a Condorcet winner's
-//! scores are above those of the others, or above the average (`winner_laws.rt`). It stands on
+//! too (`Properties.antt`, with `Lifts.antt`, `Neutrality.antt` and `Disjointness.antt`), and what they
+//! rest on is proved: a lift, which moves one alternative towards the front of ballots and changes
+//! nothing else, never lowers a score of that alternative nor raises one of another (`lift_laws.rt`); a
+//! Condorcet winner's scores are above those of the others, or above the average (`winner_laws.rt`); and
+//! an election whose alternatives get other names is an election still (`laws.rt`). It stands on
 //! `vir_profile` and `vir_term`.
 #![tactic(auto)]
 
@@ -30,21 +31,23 @@ mod modules;
 mod plain;
 mod restriction;
 mod scores;
+mod simple_splits;
 mod tally;
 mod winner_laws;
 
-pub use compositions::{joined, merged, revised};
+pub use compositions::{join_in_parallel, join_in_sequence, revise};
 pub use elimination::{Elimination, elect_plurality_winners, eliminate, eliminate_by_scores};
 pub use fixed_orders::first_members;
 pub use laws::{
-    line_may_be_split, loop_goes_by_turns, loop_may_stop_below_its_number,
-    loop_of_k_alternatives_stops, meanings_are_splits, nothing_is_split_into_nothing,
-    passing_is_not_neutral, renamed_elections_are_elections, until_of_few_alternatives_stops,
+    alternatives_are_numbers_from_1_on, line_may_be_split, loop_goes_by_turns,
+    loop_may_stop_below_its_number, loop_of_k_alternatives_stops, meanings_are_splits,
+    nothing_is_split_into_nothing, passing_is_not_neutral, renamed_elections_are_elections,
+    until_of_few_alternatives_stops,
 };
 pub use lift_laws::{
     changed_score_raises_the_lifted, lifted_leader_by_condorcet_score, lifted_score_never_falls,
-    no_other_score_rises, restricted_lift, restriction_without_the_lifted,
-    unchanged_profile_is_a_lift,
+    moving_back_may_lower_a_score, no_other_score_rises, restricted_lift,
+    restriction_without_the_lifted, unchanged_profile_is_a_lift,
 };
 pub use lines::Lines;
 pub use members::list_members;

@@ -19,7 +19,15 @@ pub fn lifted_score_never_falls()
         → (s : Score) → score s a p x ≤ℤ score s a q x }
 {}
 
-/// Nor does it raise a score of any other alternative.
+/// An alternative that moves back may lose score, as 1 does where the one order 1, 2 becomes 2, 1. So it
+/// isn't enough that two profiles differ only in where an alternative stands.
+pub fn moving_back_may_lower_a_score()
+    ensures { ((a : Set) (p q : List Entry) (x : ℕ)
+        → IsProfileOn a p → IsProfileOn a q → set.contains a x ≡ true → SameBut x p q
+        → (s : Score) → score s a p x ≤ℤ score s a q x) → ⊥ }
+{}
+
+/// Nor does a lift raise a score of any other alternative.
 pub fn no_other_score_rises()
     ensures { (a : Set) (p q : List Entry) (x : ℕ)
         → IsProfileOn a p → IsProfileOn a q → set.contains a x ≡ true → Lifts x p q
@@ -50,7 +58,8 @@ pub fn lifted_leader_by_condorcet_score()
     ensures { (a : Set) (p q : List Entry) (x : ℕ)
         → IsProfileOn a p → IsProfileOn a q → set.contains a x ≡ true → Lifts x p q
         → is_passed (score Condorcet a p) a x ≡ false
-        → ((y : ℕ) → set.contains a y ≡ true → score Condorcet a q y ≡ score Condorcet a p y) ⊎ IsCondorcetWinner x a q }
+        → ((y : ℕ) → set.contains a y ≡ true → score Condorcet a q y ≡ score Condorcet a p y)
+        ⊎ IsCondorcetWinner x a q }
 {}
 
 /// A lift of a member of a set is a lift also on the profiles restricted to that set.

@@ -1,3 +1,4 @@
+// The tally of ballots that are restricted already.
 ghost use Rattle.std.specs.Prelude.{◌≡◌, ◌+◌, ◌<◌, ◌≤◌, ◌^◌, ℕ, true, cond, length};
 ghost use Rattle.vir_altset.specs.Sets.{limit};
 ghost use Rattle.vir_profile.specs.Orders.{puts_before, begins_with};
@@ -80,9 +81,11 @@ fn first_weight(lines: &[Entry], x: u16) -> u64
 // Adds the weight of a line at its first alternative.
 fn add_first_place(weights: &mut [u64], line: &Entry)
     requires size { length weights.old ≡ limit }
-    requires room { (x : ℕ) → 1 ≤ x → x ≤ limit → begins_with x line.now.order ≡ true → number_of weights.old x + line.now.weight < 2 ^ 64 }
+    requires room { (x : ℕ) → 1 ≤ x → x ≤ limit → begins_with x line.now.order ≡ true
+        → number_of weights.old x + line.now.weight < 2 ^ 64 }
     ensures size { length weights.new ≡ limit }
-    ensures added { (x : ℕ) → 1 ≤ x → x ≤ limit → number_of weights.new x ≡ number_of weights.old x + cond (begins_with x line.now.order) line.now.weight 0 }
+    ensures added { (x : ℕ) → 1 ≤ x → x ≤ limit
+        → number_of weights.new x ≡ number_of weights.old x + cond (begins_with x line.now.order) line.now.weight 0 }
 {
     if line.order.len() == 0 {
         return;

@@ -1,4 +1,6 @@
+// The members of a set, listed in an array.
 ghost use Rattle.std.specs.Prelude.{◌≡◌, ◌≤◌, length, take};
+ghost use Rattle.vir_altset.specs.Members.{members};
 ghost use Rattle.vir_altset.specs.Sets.{limit};
 ghost use Rattle.vir_mean.specs.Members.{AreMembers};
 
@@ -10,6 +12,7 @@ pub fn list_members(domain: &AltSet, list: &mut [u16]) -> usize
     ensures size { length list.new ≡ limit }
     ensures few { result ≤ limit }
     ensures members { AreMembers domain.now (take result list.new) }
+    ensures ascending { take result list.new ≡ members domain.now }
 {
     domain.bounded();
     let mut count = 0;

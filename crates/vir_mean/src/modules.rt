@@ -1,43 +1,14 @@
-// The modules.
+// What each module makes of a set.
 ghost use Rattle.std.specs.Prelude.{◌≡◌, ◌<◌, ◌^◌};
-ghost use Rattle.std.specs.FinSet as set;
 ghost use Rattle.vir_profile.specs.Profiles.{total_weight};
 ghost use Rattle.vir_mean.specs.Modules.{leaf_mean};
 
 use crate::elimination::{Elimination, elect_plurality_winners, eliminate};
 use crate::fixed_orders::first_members;
 use crate::lines::Lines;
+use crate::simple_splits::{defer_all, elect_all, elect_none};
 use vir_profile::{AltSet, Entry, Split};
 use vir_term::Leaf;
-
-// All are elected.
-fn all_elected(domain: &AltSet) -> Split
-    ensures { result ≡ record { elected = domain.now; rejected = set.empty; deferred = set.empty } }
-{
-    Split {
-        elected: *domain,
-        rejected: AltSet::empty(),
-        deferred: AltSet::empty(),
-    }
-}
-
-/// All are deferred.
-pub fn all_deferred(domain: &AltSet) -> Split
-    ensures { result ≡ record { elected = set.empty; rejected = set.empty; deferred = domain.now } }
-{
-    none_elected(&AltSet::empty(), domain)
-}
-
-// These are rejected, and those deferred.
-fn none_elected(rejected: &AltSet, deferred: &AltSet) -> Split
-    ensures { result ≡ record { elected = set.empty; rejected = rejected.now; deferred = deferred.now } }
-{
-    Split {
-        elected: AltSet::empty(),
-        rejected: *rejected,
-        deferred: *deferred,
-    }
-}
 
 /// The split that a module gives of a set, by lines that are restricted to it.
 pub fn leaf_result(leaf: &Leaf, lines: &[Entry], domain: &AltSet) -> Split
@@ -46,15 +17,15 @@ pub fn leaf_result(leaf: &Leaf, lines: &[Entry], domain: &AltSet) -> Split
 {
     let tally = Lines { lines };
     match leaf {
-        Leaf::Elect => all_elected(domain),
-        Leaf::Defer => all_deferred(domain),
+        Leaf::Elect => elect_all(domain),
+        Leaf::Defer => defer_all(domain),
         Leaf::PassFirst { k, order } => {
             let first = first_members(*k, order, domain);
-            none_elected(&domain.minus(&first), &first)
+            elect_none(&domain.minus(&first), &first)
         }
         Leaf::DropFirst { k, order } => {
             let first = first_members(*k, order, domain);
-            none_elected(&first, &domain.minus(&first))
+            elect_none(&first, &domain.minus(&first))
         }
         Leaf::Plurality => elect_plurality_winners(&tally, domain),
         Leaf::Max(score) => eliminate(Elimination::Max, *score, &tally, domain),

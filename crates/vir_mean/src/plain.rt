@@ -7,10 +7,11 @@ ghost use Rattle.vir_mean.specs.Compositions.{joined, loop_of};
 ghost use Rattle.vir_mean.specs.Endings.{end_of};
 ghost use Rattle.vir_mean.specs.Meaning.{mean};
 
-use crate::compositions::{joined, merged, revised};
+use crate::compositions::{join_in_parallel, join_in_sequence, revise};
 use crate::ending::{Ending, ends_at};
-use crate::modules::{all_deferred, leaf_result};
+use crate::modules::leaf_result;
 use crate::restriction::restricted_lines;
+use crate::simple_splits::defer_all;
 use std::alloc::{AllocError, Global};
 use vir_profile::{AltSet, Entry, Profile, Split};
 use vir_term::Term;
@@ -30,17 +31,17 @@ fn term_result(
         Term::Leaf(leaf) => Ok(leaf_result(leaf, lines, domain)),
         Term::Rev(part) => {
             let split = term_result(alloc, part, lines, domain)?;
-            Ok(revised(&split, domain))
+            Ok(revise(&split, domain))
         }
         Term::Seq(first, second) => {
             let decided = term_result(alloc, first, lines, domain)?;
             let further = restricted_result(alloc, second, lines, &decided.deferred)?;
-            Ok(joined(&decided, &further))
+            Ok(join_in_sequence(&decided, &further))
         }
         Term::Par(first, second) => {
             let one = term_result(alloc, first, lines, domain)?;
             let other = term_result(alloc, second, lines, domain)?;
-            Ok(merged(&one, &other))
+            Ok(join_in_parallel(&one, &other))
         }
         Term::Loop { k, body } => loop_result(alloc, Ending::Exactly(*k), body, lines, domain),
         Term::Until { k, body } => loop_result(alloc, Ending::AtMost(*k), body, lines, domain),
@@ -76,7 +77,7 @@ fn loop_result(
     ensures { IfOk result (λ split. split ≡ loop_of (end_of ending) (mean (tree body.now)) domain.now lines.now) }
 {
     if ends_at(ending, domain) {
-        return Ok(all_deferred(domain));
+        return Ok(defer_all(domain));
     }
     let first = term_result(alloc, body, lines, domain)?;
     if first.deferred.equals(domain) {
@@ -96,7 +97,9 @@ fn further_turns(
     first: Split,
 ) -> Result<Split, AllocError>
     requires { total_weight lines.now < 2 ^ 64 }
-    ensures { IfOk result (λ split. split ≡ joined first (loop_of (end_of ending) (mean (tree body.now)) first.deferred (restrict first.deferred lines.now))) }
+    ensures { IfOk result (λ split. split
+        ≡ joined first
+        (loop_of (end_of ending) (mean (tree body.now)) first.deferred (restrict first.deferred lines.now))) }
 {
     let most = first.deferred.count();
     let mut so_far = first;
@@ -108,7 +111,7 @@ fn further_turns(
         if next.deferred.equals(&so_far.deferred) {
             return Ok(so_far);
         }
-        so_far = joined(&so_far, &next);
+        so_far = join_in_sequence(&so_far, &next);
     }
     Ok(so_far)
 }

@@ -1,3 +1,4 @@
+// The scores of the members of a set.
 ghost use Rattle.std.specs.Prelude.{◌≡◌, ◌≢◌, ◌≤◌, true, length};
 ghost use Rattle.std.specs.FinSet as set;
 ghost use Rattle.vir_altset.specs.Sets.{limit};
@@ -73,7 +74,7 @@ fn fill_by_first_places<T: Tally>(tally: &T, domain: &AltSet, members: &[u16], s
 }
 
 /// Fills an array with the scores of the members of a set, that of x at place x - 1. The other places
-/// stay as they are. It goes over the ballots once for first places, and asks of pairs for the other
+/// may become anything. It goes over the ballots once for first places, and asks of pairs for the other
 /// scores.
 pub fn fill_scores<T: Tally>(
     named: Score,

@@ -1,3 +1,4 @@
+// What the modules ask of ballots.
 ghost use Rattle.std.specs.Prelude.{◌≡◌, ◌≢◌, true, length, List};
 ghost use Rattle.std.specs.FinSet as set;
 ghost use Rattle.vir_altset.specs.Sets.{Set, limit};

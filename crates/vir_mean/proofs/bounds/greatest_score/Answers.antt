@@ -14,5 +14,7 @@ loop-x-preserved c =
     let list = c.args.members.now in
     let i = c.loop-x.x-index in
     let fits : SFits w128 (get_or scores (c.from.result - 1) (pos 0)) = search rules in
-    fold_more (λ x m. raised m (score_of scores x)) (raised_swaps (score_of scores)) c.loop-x.greatest _ _ list i (omega arith)
-    (c.raised-greatest.ensures ∙ ap (raised c.loop-x.greatest) (backed _ fits ∙ ap (score_of scores) c.from.ensures)) c.loop-x.invariant
+    fold_more (λ x m. raised m (score_of scores x)) (raised_swaps (score_of scores)) c.loop-x.greatest _ _ list i
+    (omega arith)
+    (c.greater_of-greatest.ensures ∙ ap (raised c.loop-x.greatest) (backed _ fits ∙ ap (score_of scores)
+    c.from.ensures)) c.loop-x.invariant

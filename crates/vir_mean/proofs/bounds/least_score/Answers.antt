@@ -15,4 +15,5 @@ loop-x-preserved c =
     let i = c.loop-x.x-index in
     let fits : SFits w128 (get_or scores (c.from.result - 1) (pos 0)) = search rules in
     fold_more (λ x m. sunk m (score_of scores x)) (sunk_swaps (score_of scores)) c.loop-x.least _ _ list i (omega arith)
-    (c.sunk-least.ensures ∙ ap (sunk c.loop-x.least) (backed _ fits ∙ ap (score_of scores) c.from.ensures)) c.loop-x.invariant
+    (c.lesser_of-least.ensures ∙ ap (sunk c.loop-x.least) (backed _ fits ∙ ap (score_of scores) c.from.ensures))
+    c.loop-x.invariant

@@ -32,8 +32,11 @@ loop-x-preserved c =
     let short : i < limit + 1 = omega arith in
     let value = ap (score_of scores) c.from.ensures in
     let is = backed _ (small_fits _ (subst (IsWithin _) (sym value) small)) ∙ value in
-    let sum = ap (λ v. to_z w128 (of_z w128 (to_z w128 c.loop-x.sum-bits +ℤ v))) is ∙ backed _ (fits_more c.loop-x.invariant short _ small) in
-    subst (λ z. Added scores list z (i + 1)) (sym sum) (added_more c.loop-x.invariant (get_or list i 0) (here list i (omega arith)) _ (λ k. score_of scores (get_or list i 0)) small)
+    let sum = ap (λ v. to_z w128 (of_z w128 (to_z w128 c.loop-x.sum-bits +ℤ v))) is
+    ∙ backed _ (fits_more c.loop-x.invariant short _ small) in
+    subst (λ z. Added scores list z (i + 1)) (sym sum) (added_more c.loop-x.invariant (get_or list i 0)
+    (here list i (omega arith)) _ (λ k. score_of scores (get_or list i 0)) small)
 
 pub returns : goal.returns
-returns c = added_all c.loop-x.invariant (omega arith) ∙ sum_listings (score_of c.args.scores.now) c.args.domain.now c.args.members.now _ (lists_members c.requires.members) (listed_lists c.args.domain.now)
+returns c = added_all c.loop-x.invariant (omega arith) ∙ sum_listings (score_of c.args.scores.now) c.args.domain.now
+    c.args.members.now _ (lists_members c.requires.members) (listed_lists c.args.domain.now)

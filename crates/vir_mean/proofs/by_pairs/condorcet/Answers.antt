@@ -12,8 +12,11 @@ returns-then-not-beats g c =
     let lines = g.T.Tally.lines c.args.tally.now c.args.domain.now in
     let x = c.args.x in
     let list = c.args.members.now in
-    let fails : (nat_eq (get_or list c.loop-y.y-index 0) x || beats lines x (get_or list c.loop-y.y-index 0)) ≡ false = ap (λ b. b || beats lines x (get_or list c.loop-y.y-index 0)) (apart_false (get_or list c.loop-y.y-index 0) x c.if-y-x.true) ∙ sym c.beats.ensures ∙ c.if-not-beats.true in
-    ap (λ b. pos (bit b)) (sym (one_fails (λ z. nat_eq z x || beats lines x z) list c.loop-y.y-index (omega arith) c.loop-y.invariant fails))
+    let fails : (nat_eq (get_or list c.loop-y.y-index 0) x || beats lines x (get_or list c.loop-y.y-index 0)) ≡ false =
+    ap (λ b. b || beats lines x (get_or list c.loop-y.y-index 0)) (apart_false (get_or list c.loop-y.y-index 0) x
+    c.if-y-x.true) ∙ sym c.beats.ensures ∙ c.if-not-beats.true in
+    ap (λ b. pos (bit b)) (sym (one_fails (λ z. nat_eq z x || beats lines x z) list c.loop-y.y-index (omega arith)
+    c.loop-y.invariant fails))
     ∙ sym (condorcet_is c.args.domain.now lines x list (lists_members c.requires.members))
 
 pub returns : goal.returns
@@ -21,5 +24,6 @@ returns g c =
     let lines = g.T.Tally.lines c.args.tally.now c.args.domain.now in
     let x = c.args.x in
     let list = c.args.members.now in
-    ap (λ b. pos (bit b)) (sym (c.loop-y.invariant ∙ ap (list_all (λ z. nat_eq z x || beats lines x z)) (drop_all c.loop-y.y-index list (omega arith))))
+    ap (λ b. pos (bit b)) (sym (c.loop-y.invariant ∙ ap (list_all (λ z. nat_eq z x || beats lines x z))
+    (drop_all c.loop-y.y-index list (omega arith))))
     ∙ sym (condorcet_is c.args.domain.now lines x list (lists_members c.requires.members))

@@ -6,4 +6,5 @@ use Rattle.vir_mean.proofs.elimination.elect_plurality_winners.Goals as goal
 pub returns : goal.returns
 returns g c =
     let domain = c.args.domain.now in
-    winners_split domain (is_passed (plurality_score (g.T.Tally.lines c.args.tally.now domain)) domain) _ _ _ c.empty.ensures c.minus.ensures c.gone_by_score-passed.ensures
+    winners_split domain (is_passed (plurality_score (g.T.Tally.lines c.args.tally.now domain)) domain) _ _ _
+    c.empty.ensures c.minus.ensures c.find_gone_by_score-passed.ensures

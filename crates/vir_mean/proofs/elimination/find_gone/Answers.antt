@@ -14,7 +14,8 @@ use Rattle.vir_mean.proofs.MemberCounts.{lists_members}
 use Rattle.vir_mean.proofs.ScoreSums.{backed, small_fits}
 
 pub loop-x-init : goal.loop-x-init
-loop-x-init c y = found_none (goes c.args.kind (score_of c.args.scores.now) c.args.domain.now) c.args.members.now c.empty-gone.ensures y
+loop-x-init c y = found_none (goes c.args.kind (score_of c.args.scores.now) c.args.domain.now) c.args.members.now
+    c.empty-gone.ensures y
 
 pub goes_by-requires-clause-score : goal.goes_by-requires-clause-score
 goes_by-requires-clause-score c =
@@ -29,7 +30,8 @@ goes_by-requires-clause-some c =
     let inside = c.requires.members.each c.loop-x.x-index (omega arith) in
     let some = len_of_member c.args.domain.now _ inside.0 in
     let fits : SFits w128 c.from-size.result = search rules in
-    let size : to_z w128 (of_z w128 c.from-size.result) ≡ pos (set.len c.args.domain.now) = backed _ fits ∙ c.from-size.ensures ∙ ap pos c.count.ensures.exact in
+    let size : to_z w128 (of_z w128 c.from-size.result) ≡ pos (set.len c.args.domain.now) = backed _ fits
+    ∙ c.from-size.ensures ∙ ap pos c.count.ensures.exact in
     omega (arith, ints)
 
 pub loop-x-preserved : goal.loop-x-preserved
@@ -44,12 +46,17 @@ loop-x-preserved c y =
     let is = backed _ (small_fits _ (subst (IsWithin _) (sym value) small)) ∙ value in
     let bound_fits : SFits w128 c.bound_of-bound.result = search rules in
     let size_fits : SFits w128 c.from-size.result = search rules in
-    let size : to_z w128 (of_z w128 c.from-size.result) ≡ pos (set.len c.args.domain.now) = backed _ size_fits ∙ c.from-size.ensures ∙ ap pos c.count.ensures.exact in
-    let tells = c.goes_by.ensures ∙ goes_at c.args.kind _ _ _ _ _ _ is (backed _ bound_fits) size ∙ c.bound_of-bound.ensures (get_or list i 0) inside.0 in
+    let size : to_z w128 (of_z w128 c.from-size.result) ≡ pos (set.len c.args.domain.now) = backed _ size_fits
+    ∙ c.from-size.ensures ∙ ap pos c.count.ensures.exact in
+    let tells = c.goes_by.ensures ∙ goes_at c.args.kind _ _ _ _ _ _ is (backed _ bound_fits) size
+    ∙ c.bound_of-bound.ensures (get_or list i 0) inside.0 in
     elim c.if-goes_by.branch [
-      | then-goes_by w ↦ rw (w.gone-is, w.put.ensures) (found_more t list c.loop-x.gone i (omega arith) (sym tells ∙ w.if-goes_by.true) c.loop-x.invariant y)
-      | else-goes_by w ↦ rw w.gone-is (found_same t list c.loop-x.gone i (omega arith) (sym tells ∙ w.if-goes_by.false) c.loop-x.invariant y)
+      | then-goes_by w ↦ rw (w.gone-is, w.put.ensures) (found_more t list c.loop-x.gone i (omega arith)
+          (sym tells ∙ w.if-goes_by.true) c.loop-x.invariant y)
+      | else-goes_by w ↦ rw w.gone-is (found_same t list c.loop-x.gone i (omega arith) (sym tells ∙ w.if-goes_by.false)
+          c.loop-x.invariant y)
     ]
 
 pub returns : goal.returns
-returns c = found_all _ c.args.domain.now c.args.members.now c.loop-x.gone c.loop-x.x-index (lists_members c.requires.members) (omega arith) c.loop-x.invariant
+returns c = found_all _ c.args.domain.now c.args.members.now c.loop-x.gone c.loop-x.x-index
+    (lists_members c.requires.members) (omega arith) c.loop-x.invariant

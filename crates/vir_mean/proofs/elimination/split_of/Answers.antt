@@ -6,9 +6,12 @@ use Rattle.vir_mean.proofs.EliminatedSplits.{all_gone, some_stay}
 pub returns-then-equals : goal.returns-then-equals
 returns-then-equals c =
     let is : IsTrue c.equals.result = search rules in
-    all_gone c.args.domain.now c.args.gone _ _ c.empty-then-equals.ensures c.empty-then-equals-2.ensures (sym c.minus-left.ensures ∙ c.equals.ensures.0 is ∙ c.empty.ensures)
+    c.defer_all.ensures ∙ all_gone c.args.domain.now c.args.gone (sym c.minus-left.ensures ∙ c.equals.ensures.0 is
+    ∙ c.empty.ensures)
 
 pub returns : goal.returns
 returns c =
-    some_stay c.args.domain.now c.args.gone _ _ c.empty-2.ensures c.minus-left.ensures
-    (λ none. let is : IsTrue c.equals.result = c.equals.ensures.1 (c.minus-left.ensures ∙ none ∙ sym c.empty.ensures) in true≢false (sym is ∙ c.if-equals.false))
+    c.elect_none.ensures
+    ∙ some_stay c.args.domain.now c.args.gone _ c.minus-left.ensures
+    (λ none. let is : IsTrue c.equals.result = c.equals.ensures.1 (c.minus-left.ensures ∙ none ∙ sym c.empty.ensures)
+    in true≢false (sym is ∙ c.if-equals.false))

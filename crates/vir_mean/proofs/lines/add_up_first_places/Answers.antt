@@ -17,16 +17,30 @@ add_first_place-requires-clause-room c x low high begins =
     let lines = c.args.lines.now in
     let line = c.line-item.result in
     let counts = ap (λ b. cond b line.weight 0) begins in
-    let before : number_of c.loop-line.weights x + first_weight (drop c.loop-line.line-index lines) x ≡ first_weight lines x = c.loop-line.invariant x low high in
-    omega (arith, weight_where-drop (begins_with x) lines c.loop-line.line-index line (omega arith) c.line-item.is, counts, before, weight_where-le-total (begins_with x) lines)
+    let before : number_of c.loop-line.weights x + first_weight (drop c.loop-line.line-index lines) x
+    ≡ first_weight lines x = c.loop-line.invariant x low high in
+    omega (
+      arith,
+      weight_where-drop (begins_with x) lines c.loop-line.line-index line (omega arith) c.line-item.is,
+      counts,
+      before,
+      weight_where-le-total (begins_with x) lines,
+    )
 
 pub loop-line-preserved : goal.loop-line-preserved
 loop-line-preserved c x low high =
     let lines = c.args.lines.now in
-    omega (arith, weight_where-drop (begins_with x) lines c.loop-line.line-index c.line-item.result (omega arith) c.line-item.is, c.loop-line.invariant x low high, c.add_first_place.ensures.added x low high)
+    omega (
+      arith,
+      weight_where-drop (begins_with x) lines c.loop-line.line-index c.line-item.result (omega arith)
+          c.line-item.is,
+      c.loop-line.invariant x low high,
+      c.add_first_place.ensures.added x low high,
+    )
 
 pub returns : goal.returns
 returns c = record {
   size = omega arith;
-  each = λ x low high. let none = weight_where-drop_all (begins_with x) c.args.lines.now c.loop-line.line-index (omega arith) in let sum = c.loop-line.invariant x low high in omega arith;
+  each = λ x low high. let none = weight_where-drop_all (begins_with x) c.args.lines.now c.loop-line.line-index
+      (omega arith) in let sum = c.loop-line.invariant x low high in omega arith;
 }

@@ -5,4 +5,5 @@ use Rattle.vir_mean.specs.Numbers.{number_of}
 use Rattle.vir_mean.proofs.lines.add_up_first_places.Given as goal
 
 abbrev pub invariant-loop-line : goal.invariant-loop-line
-invariant-loop-line l = (x : ℕ) → 1 ≤ x → x ≤ limit → number_of l.weights x + first_weight (drop l.line-index l.lines) x ≡ first_weight l.lines x
+invariant-loop-line l = (x : ℕ) → 1 ≤ x → x ≤ limit → number_of l.weights x + first_weight (drop l.line-index l.lines) x
+    ≡ first_weight l.lines x
