@@ -1,0 +1,13 @@
+pub mod TokenLemmas
+pub mod PropertyLemmas
+pub mod ChildrenLemmas
+pub mod WithinLemmas
+pub mod RoundTripDerivations
+pub mod UntilFree
+pub mod Alike
+pub mod PartLemmas
+pub mod RoundTripProps
+pub mod SpelledFree
+pub mod RoundTripCerts
+pub mod Accepted
+pub mod FirstVersion
