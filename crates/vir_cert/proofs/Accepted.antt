@@ -16,7 +16,7 @@ use Rattle.vir_read.specs.Faults.{OrFault, ◌>>=◌}
 use Rattle.vir_read.specs.Symbols.{symbol}
 use Rattle.vir_read.specs.Tokens.{tokens_of}
 use Rattle.vir_read.specs.RawTrees.{RawTree, RawTrees, word, number, bracket, none as no_raws, more as more_raws}
-use Rattle.vir_read.specs.Grammar.{Read, unexpected, tree_of}
+use Rattle.vir_read.specs.Grammar.{Read, symbol_of, unexpected, tree_of}
 use Rattle.vir_read.specs.Arguments.{AreWithinLimits, span, count_of}
 use Rattle.vir_read.specs.Typing.{term_of, first_place}
 use Rattle.vir_read.proofs.LimitLemmas.{bind_ok, ok_ok, guard_else, count_of_ok, term_of_within}
@@ -32,7 +32,7 @@ use Rattle.vir_rules.proofs.ByName.{named_within}
 use Rattle.vir_rules.proofs.PropTexts.{named_alone}
 use Rattle.vir_cert.specs.declared.derivation_reader.Separator.{Separator}
 use Rattle.vir_cert.specs.declared.derivation_reader.Separator.TheVariants as separator
-use Rattle.vir_cert.specs.Derivations.{PlacedRule, Reads, up_to, known_rule, name_then, name_of, separator_of, goes_on}
+use Rattle.vir_cert.specs.Derivations.{PlacedRule, Reads, up_to, known_rule, name_of, separator_of, goes_on}
 use Rattle.vir_cert.specs.Derivations.{children, opens, behind_rule, derivation_within, derivation_of}
 use Rattle.vir_cert.specs.Properties.{prop_alone, prop_of_number, prop_then, prop_of}
 use Rattle.vir_cert.specs.declared.version.Version.{Version}
@@ -71,22 +71,11 @@ module _ (text : List ℕ) (last : ℕ) where
       (ok_ok (record { rule = rule; at = at }, rest) x h) in
       subst (IsRule last) same (up_to_ok w (rule_named w) rule refl e)
 
-  name_then_ok : (t : Token) (rest : List Token) (s : Symbol) (x : PlacedRule × List Token) → name_then text last t rest
-      s ≡ Ok x → IsRule last x.0.rule
-  name_then_ok t rest Word x h = known_rule_ok (span text t.start t.end) t.start rest
-      (up_to last (rule_named (span text t.start t.end))) x refl h
-  name_then_ok t rest Number x h = cc
-  name_then_ok t rest OpenParenthesis x h = cc
-  name_then_ok t rest CloseParenthesis x h = cc
-  name_then_ok t rest OpenBracket x h = cc
-  name_then_ok t rest CloseBracket x h = cc
-  name_then_ok t rest Comma x h = cc
-  name_then_ok t rest Semicolon x h = cc
-  name_then_ok t rest Equals x h = cc
-
   name_ok : (tokens : List Token) (x : PlacedRule × List Token) → name_of text last tokens ≡ Ok x → IsRule last x.0.rule
-  name_ok [] x h = cc
-  name_ok (t ∷ rest) x h = name_then_ok t rest (symbol text t) x h
+  name_ok tokens x h =
+      let w = bind_ok (symbol_of text Word tokens) _ x h in
+      let name = span text w.0.0.start w.0.0.end in
+      known_rule_ok name w.0.0.start w.0.1 (up_to last (rule_named name)) x refl w.2
 
   -- a derivation of such rules, of at most this nesting
   abbrev IsGood : ℕ → RuleTree → Type 0

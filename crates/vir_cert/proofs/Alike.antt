@@ -18,9 +18,10 @@ use Rattle.vir_read.specs.Faults.{OrFault, ◌>>=◌}
 use Rattle.vir_read.specs.RawTrees.{RawTree, RawTrees, word, number, bracket, none, more, list_of}
 use Rattle.vir_read.specs.BuiltIns.{built_in_named, score_named, takes, is_only_score}
 use Rattle.vir_read.specs.Arguments.{Names, span, count_of, with_member, with_members, order_of, as_score, is_known}
-use Rattle.vir_read.specs.Arguments.{score_of}
-use Rattle.vir_read.specs.Typing.{Argument, ordered_leaf, eliminator_leaf, pair_tree, end_of, composed, built_in}
-use Rattle.vir_read.specs.Typing.{defined, word_typed, typed, arguments_of}
+use Rattle.vir_read.specs.Arguments.{score_argument}
+use Rattle.vir_read.specs.Typing.{Argument, ordered_leaf, eliminator_leaf, pair_tree, end_of, composition_of}
+use Rattle.vir_read.specs.Typing.{built_in_term}
+use Rattle.vir_read.specs.Typing.{defined_term, word_term, term_at, arguments_of}
 use Rattle.vir_read.proofs.LimitLemmas.{bind_ok, ok_ok, guard_else, guard_then}
 use Rattle.vir_cert.specs.Untils.{until_word, until_at}
 use Rattle.vir_cert.specs.FirstReader.{first_typed, first_arguments_of}
@@ -70,7 +71,7 @@ as_score_free text name at parts false None s e h = cc
 as_score_free text name at none known (Some r) s e h = (other_word name r (bytes_eq name until_word) refl e, tt)
 as_score_free text name at (more _ _) known (Some r) s e h = cc
 
-score_free : (text : List ℕ) (names : Names) (raw : RawTree) (s : Score) → score_of text names raw ≡ Ok s
+score_free : (text : List ℕ) (names : Names) (raw : RawTree) (s : Score) → score_argument text names raw ≡ Ok s
     → IsFree text raw
 score_free text names (word start end parts) s h =
     as_score_free text (span text start end) start parts (is_known names (span text start end))
@@ -103,15 +104,16 @@ module _ (text : List ℕ) (names : Names) where
   module _ (at level : ℕ) where
     -- what a word makes of them
     abbrev Alike : BuiltIn → List Twin → Tree → Type 0
-    Alike w xs t = AreFree xs × (composed text names at level w (seconds xs) ≡ Ok t)
+    Alike w xs t = AreFree xs × (composition_of text names at level w (seconds xs) ≡ Ok t)
 
-    one_number : (m : Ordered) (k : Twin) (t : Tree) → composed text names at level (word'.Ordered m) (firsts (k ∷ []))
+    one_number : (m : Ordered) (k : Twin) (t : Tree) → composition_of text names at level (word'.Ordered m)
+        (firsts (k ∷ []))
         ≡ Ok t → Alike (word'.Ordered m) (k ∷ []) t
     one_number m k t h =
         let b = bind_ok (count_of text k.tree) (λ k. Ok (leaf (ordered_leaf m k []))) t h in
         ((count_free text k.tree b.0 b.1, tt), h)
 
-    with_order : (m : Ordered) (k o : Twin) (t : Tree) → composed text names at level (word'.Ordered m)
+    with_order : (m : Ordered) (k o : Twin) (t : Tree) → composition_of text names at level (word'.Ordered m)
         (firsts (k ∷ o ∷ [])) ≡ Ok t → Alike (word'.Ordered m) (k ∷ o ∷ []) t
     with_order m k o t h =
         let b = bind_ok (count_of text k.tree) (λ k. order_of text o.tree >>= λ order.
@@ -119,20 +121,21 @@ module _ (text : List ℕ) (names : Names) where
         let d = bind_ok (order_of text o.tree) (λ order. Ok (leaf (ordered_leaf m b.0 order))) t b.2 in
         ((count_free text k.tree b.0 b.1, (order_free text o.tree d.0 d.1, tt)), h)
 
-    with_score : (m : Eliminator) (s : Twin) (t : Tree) → composed text names at level (word'.Eliminator m)
+    with_score : (m : Eliminator) (s : Twin) (t : Tree) → composition_of text names at level (word'.Eliminator m)
         (firsts (s ∷ [])) ≡ Ok t → Alike (word'.Eliminator m) (s ∷ []) t
     with_score m s t h =
-        let b = bind_ok (score_of text names s.tree) (λ s. Ok (leaf (eliminator_leaf m s))) t h in
+        let b = bind_ok (score_argument text names s.tree) (λ s. Ok (leaf (eliminator_leaf m s))) t h in
         ((score_free text names s.tree b.0 b.1, tt), h)
 
-    one_part : (m : Twin) (t : Tree) → composed text names at level word'.Rev (firsts (m ∷ [])) ≡ Ok t
+    one_part : (m : Twin) (t : Tree) → composition_of text names at level word'.Rev (firsts (m ∷ [])) ≡ Ok t
         → Alike word'.Rev (m ∷ []) t
     one_part m t h =
         let b = bind_ok (m.first (level + 1)) (λ m. Ok (rev m)) t h in
         let a = m.alike (level + 1) b.0 b.1 in
         ((a.0, tt), ap (λ r. r >>= λ m. Ok (rev m)) a.1 ∙ b.2)
 
-    two_parts : (c : Pair) (m n : Twin) (t : Tree) → composed text names at level (word'.Pair c) (firsts (m ∷ n ∷ []))
+    two_parts : (c : Pair) (m n : Twin) (t : Tree) → composition_of text names at level (word'.Pair c)
+        (firsts (m ∷ n ∷ []))
         ≡ Ok t → Alike (word'.Pair c) (m ∷ n ∷ []) t
     two_parts c m n t h =
         let b = bind_ok (m.first (level + 1)) (λ first. n.first (level + 1) >>= λ second. Ok (pair_tree c first second))
@@ -146,7 +149,8 @@ module _ (text : List ℕ) (names : Names) where
         )
 
     number_and_part : (e : LoopEnd) (k m : Twin) (t : Tree) →
-        composed text names at level (word'.Loop e) (firsts (k ∷ m ∷ [])) ≡ Ok t → Alike (word'.Loop e) (k ∷ m ∷ []) t
+        composition_of text names at level (word'.Loop e) (firsts (k ∷ m ∷ [])) ≡ Ok t → Alike (word'.Loop e)
+        (k ∷ m ∷ []) t
     number_and_part e k m t h =
         let b = bind_ok (count_of text k.tree) (λ k. m.first (level + 1) >>= λ body. Ok (loop (end_of e k) body)) t h in
         let d = bind_ok (m.first (level + 1)) (λ body. Ok (loop (end_of e b.0) body)) t b.2 in
@@ -156,7 +160,7 @@ module _ (text : List ℕ) (names : Names) where
               ∙ ap (λ r. r >>= λ body. Ok (loop (end_of e b.0) body)) a.1 ∙ d.2,
         )
 
-    composed_alike : (w : BuiltIn) (xs : List Twin) (t : Tree) → composed text names at level w (firsts xs) ≡ Ok t
+    composed_alike : (w : BuiltIn) (xs : List Twin) (t : Tree) → composition_of text names at level w (firsts xs) ≡ Ok t
         → Alike w xs t
     composed_alike (word'.Plain m) [] t h = (tt, h)
     composed_alike (word'.Plain m) (x ∷ xs) t h = cc
@@ -184,9 +188,10 @@ module _ (text : List ℕ) (names : Names) where
   same_length [] = refl
   same_length (x ∷ xs) = ap suc (same_length xs)
 
-  built_in_alike : (at level : ℕ) (w : BuiltIn) (xs : List Twin) (t : Tree) → built_in text names at level w (firsts xs)
+  built_in_alike : (at level : ℕ) (w : BuiltIn) (xs : List Twin) (t : Tree) → built_in_term text names at level w
+      (firsts xs)
       ≡ Ok t →
-      AreFree xs × (built_in text names at level w (seconds xs) ≡ Ok t)
+      AreFree xs × (built_in_term text names at level w (seconds xs) ≡ Ok t)
   built_in_alike at level w xs t h =
       let a = guard_else (is_only_score w) _ _ t h in
       let b = guard_then (takes w (length (firsts xs))) _ _ t a.1 in
@@ -235,49 +240,49 @@ module _ (text : List ℕ) (names : Names) where
       (subst (IsFree text) same h.0, parts_free rest xs (ap tail_of e) h.1)
 
   module _ (nobody : (name : List ℕ) → names name ≡ None) where
-    undefined : (at level n : ℕ) (name : List ℕ) (t : Tree) → defined at level n (names name) ≡ Ok t → ⊥
-    undefined at level n name t h = no_term (ap (defined at level n) (sym (nobody name)) ∙ h) where
-      no_term : defined at level n None ≡ Ok t → ⊥
+    undefined : (at level n : ℕ) (name : List ℕ) (t : Tree) → defined_term at level n (names name) ≡ Ok t → ⊥
+    undefined at level n name t h = no_term (ap (defined_term at level n) (sym (nobody name)) ∙ h) where
+      no_term : defined_term at level n None ≡ Ok t → ⊥
       no_term h = cc
 
     module _ (start end level : ℕ) (parts : RawTrees) (t : Tree) (alike : AreAlike (first_arguments_of text names parts)
         (arguments_of text names parts)) where
       Whole : Type 0
       Whole = (bytes_eq (span text start end) until_word ≡ false) × AllFree text parts
-          × (word_typed text names start level (span text start end) (arguments_of text names parts)
+          × (word_term text names start level (span text start end) (arguments_of text names parts)
           (built_in_named (span text start end)) ≡ Ok t)
 
       by_word : (found : Option BuiltIn) → built_in_named (span text start end) ≡ found → bytes_eq (span text start end)
           until_word ≡ false →
-          word_typed text names start level (span text start end) (first_arguments_of text names parts) found ≡ Ok t
+          word_term text names start level (span text start end) (first_arguments_of text names parts) found ≡ Ok t
           → Whole
       unfolding Whole
       by_word None e other h = absurd (undefined start level (length (first_arguments_of text names parts))
           (span text start end) t h)
       by_word (Some w) e other h =
           let k = twins (first_arguments_of text names parts) (arguments_of text names parts) alike in
-          let b = built_in_alike start level w k.0 t (ap (built_in text names start level w) (sym k.1) ∙ h) in (
+          let b = built_in_alike start level w k.0 t (ap (built_in_term text names start level w) (sym k.1) ∙ h) in (
             other,
             parts_free parts k.0 k.1 b.0,
-            ap (word_typed text names start level (span text start end) (arguments_of text names parts)) e
-                ∙ ap (built_in text names start level w) k.2 ∙ b.1,
+            ap (word_term text names start level (span text start end) (arguments_of text names parts)) e
+                ∙ ap (built_in_term text names start level w) k.2 ∙ b.1,
           )
 
       by_name : (b : Bool) → bytes_eq (span text start end) until_word ≡ b →
-          word_typed text names start level (span text start end) (first_arguments_of text names parts) (if b then None
+          word_term text names start level (span text start end) (first_arguments_of text names parts) (if b then None
           else built_in_named (span text start end)) ≡ Ok t → Whole
       by_name true e h = absurd (undefined start level (length (first_arguments_of text names parts))
           (span text start end) t h)
       by_name false e h = by_word (built_in_named (span text start end)) refl e h
 
       word_alike : first_typed text names (word start end parts) level ≡ Ok t → IsFree text (word start end parts)
-          × (typed text names (word start end parts) level ≡ Ok t)
+          × (term_at text names (word start end parts) level ≡ Ok t)
       unfolding Whole
       word_alike h = let k = by_name (bytes_eq (span text start end) until_word) refl h in ((k.0, k.1), k.2)
 
     mutual
       typed_alike : (raw : RawTree) (level : ℕ) (t : Tree) → first_typed text names raw level ≡ Ok t → IsFree text raw
-          × (typed text names raw level ≡ Ok t)
+          × (term_at text names raw level ≡ Ok t)
       typed_alike (number start end) level t h = cc
       typed_alike (bracket start members) level t h = cc
       typed_alike (word start end parts) level t h = word_alike start end level parts t (arguments_alike parts) h
@@ -288,5 +293,5 @@ module _ (text : List ℕ) (names : Names) where
       arguments_alike (more raw rest) = (refl, (λ level t h. typed_alike raw level t h), arguments_alike rest)
 
     pub accepted_alike : (raw : RawTree) (level : ℕ) (t : Tree) → first_typed text names raw level ≡ Ok t
-        → (until_at text raw ≡ None) × (typed text names raw level ≡ Ok t)
+        → (until_at text raw ≡ None) × (term_at text names raw level ≡ Ok t)
     accepted_alike raw level t h = let k = typed_alike raw level t h in (free_at text raw k.0, k.1)

@@ -12,7 +12,7 @@ use Rattle.vir_read.specs.Tokens.{tokens_of}
 use Rattle.vir_read.specs.RawTrees.{RawTree, word, number, bracket}
 use Rattle.vir_read.specs.Grammar.{Read, tree_of}
 use Rattle.vir_read.specs.Arguments.{span}
-use Rattle.vir_read.specs.Typing.{first_place, sized, typed, term_of}
+use Rattle.vir_read.specs.Typing.{first_place, check_size, term_at, term_of}
 use Rattle.vir_read.proofs.LimitLemmas.{bind_ok, ok_ok, guard_then}
 use Rattle.vir_rules.specs.declared.prop_name.PropName.{PropName}
 use Rattle.vir_rules.specs.Named.{prop_named}
@@ -52,9 +52,10 @@ term_same : (text : List ℕ) (tokens : List Token) (x : Tree × List Token) →
 term_same text tokens x h =
     let l = bind_ok (label_of text (codes "term") tokens) _ x h in
     let t = bind_ok (tree_of text l.0.1) _ x l.2 in
-    let k = bind_ok (first_typed text no_names t.0.0 1 >>= sized (first_place t.0.0)) (λ term. Ok (term, t.0.1)) x t.2
+    let k = bind_ok (first_typed text no_names t.0.0 1 >>= check_size (first_place t.0.0)) (λ term. Ok (term, t.0.1)) x
+    t.2
     in
-    let s = bind_ok (first_typed text no_names t.0.0 1) (sized (first_place t.0.0)) k.0 k.1 in
+    let s = bind_ok (first_typed text no_names t.0.0 1) (check_size (first_place t.0.0)) k.0 k.1 in
     let a = accepted_alike text no_names nobody t.0.0 1 s.0 s.1 in
     rw (l.1, t.1, a.0, a.1, s.2) k.2
 

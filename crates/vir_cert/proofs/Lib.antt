@@ -1,4 +1,3 @@
-pub mod TokenLemmas
 pub mod PropertyLemmas
 pub mod ChildrenLemmas
 pub mod WithinLemmas

@@ -6,7 +6,7 @@ use Rattle.vir_rules.specs.RuleTrees.{RuleTree, size, size_of_all}
 use Rattle.vir_rules.specs.RuleTrees as rule
 use Rattle.vir_cert.specs.Untils.{until_at, until_in, or_else}
 use Rattle.vir_cert.specs.Texts.{have_rules_up_to, has_rules_up_to}
-use Rattle.vir_cert.proofs.TokenLemmas.{drop_here}
+use Rattle.vir_read.proofs.DropLemmas.{drop_here}
 
 -- how large a tree is, as a measure
 abbrev mutual

@@ -10,7 +10,7 @@ use Rattle.vir_read.specs.declared.symbol.Symbol.TheVariants.{Word, OpenParenthe
 use Rattle.vir_read.specs.declared.text_fault.TextKind.TheVariants.{TooDeep, UnknownRule}
 use Rattle.vir_read.specs.Faults.{◌>>=◌, fault}
 use Rattle.vir_read.specs.Symbols.{symbol}
-use Rattle.vir_read.specs.Grammar.{Read, unexpected}
+use Rattle.vir_read.specs.Grammar.{Read, symbol_of, unexpected}
 use Rattle.vir_read.specs.Arguments.{span}
 use Rattle.vir_rules.specs.RuleTrees.{RuleTree, node, none, gathered}
 use Rattle.vir_rules.specs.Named.{rule_named}
@@ -38,15 +38,11 @@ abbrev pub known_rule : ℕ → List Token → Option ℕ → Read PlacedRule
 known_rule at rest None = Err (fault UnknownRule at)
 known_rule at rest (Some rule) = Ok (record { rule = rule; at = at }, rest)
 
--- the name of a rule, by the sort of its token
-abbrev pub name_then : List ℕ → ℕ → Token → List Token → Symbol → Read PlacedRule
-name_then text last t rest Word = known_rule t.start rest (up_to last (rule_named (span text t.start t.end)))
-name_then text last t rest _ = unexpected text (t ∷ rest)
-
 -- the name of one of the first so many rules
 abbrev pub name_of : List ℕ → ℕ → List Token → Read PlacedRule
-name_of text last [] = unexpected text []
-name_of text last (t ∷ rest) = name_then text last t rest (symbol text t)
+name_of text last tokens =
+    symbol_of text Word tokens >>= λ word.
+    known_rule word.0.start word.1 (up_to last (rule_named (span text word.0.start word.0.end)))
 
 -- ---- derivations in parentheses
 

@@ -13,7 +13,7 @@ use Rattle.vir_read.specs.RawTrees.{RawTree, RawTrees, word, number, bracket, no
 use Rattle.vir_read.specs.Grammar.{Read, tree_of}
 use Rattle.vir_read.specs.BuiltIns.{built_in_named}
 use Rattle.vir_read.specs.Arguments.{Names, span}
-use Rattle.vir_read.specs.Typing.{Argument, first_place, sized, word_typed}
+use Rattle.vir_read.specs.Typing.{Argument, first_place, check_size, word_term}
 use Rattle.vir_rules.specs.declared.prop_name.PropName.{PropName}
 use Rattle.vir_rules.specs.Named.{prop_named}
 use Rattle.vir_rules.specs.RuleTrees.{RuleTree}
@@ -35,7 +35,7 @@ abbrev mutual
   first_typed text names (number start end) level = Err (fault WrongSort start)
   first_typed text names (bracket start members) level = Err (fault WrongSort start)
   first_typed text names (word start end parts) level =
-      word_typed text names start level (span text start end) (first_arguments_of text names parts)
+      word_term text names start level (span text start end) (first_arguments_of text names parts)
       (first_built_in_named (span text start end))
 
   pub first_arguments_of : List ℕ → Names → RawTrees → List Argument
@@ -70,7 +70,7 @@ first_header_of text (name ∷ version ∷ rest) =
 abbrev pub first_term_part : List ℕ → List Token → Read Tree
 first_term_part text tokens =
     label_of text (codes "term") tokens >>= λ label. tree_of text label.1 >>= λ tree.
-    (first_typed text no_names tree.0 1 >>= sized (first_place tree.0)) >>= λ t. Ok (t, tree.1)
+    (first_typed text no_names tree.0 1 >>= check_size (first_place tree.0)) >>= λ t. Ok (t, tree.1)
 
 -- the property
 abbrev pub first_prop_part : List ℕ → List Token → Read Prop

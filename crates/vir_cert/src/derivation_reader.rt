@@ -1,16 +1,14 @@
 // The derivation of a text.
 ghost use Rattle.std.specs.Prelude.{List, ◌≡◌, ◌+◌, ◌<◌, ◌≤◌, length, drop, OnOk, IfOk};
-ghost use Rattle.vir_read.specs.Faults.{Fails, Gives};
-ghost use Rattle.vir_read.specs.Grammar.{unexpected};
+ghost use Rattle.vir_read.specs.Faults.{Gives};
 ghost use Rattle.vir_rules.specs.Named.{rule_named};
 ghost use Rattle.vir_rules.specs.RuleTrees.{RuleTree, rule_tree, rule_trees};
 ghost use Rattle.vir_cert.specs.Derivations.{behind_rule, children, derivation_of, derivation_within, name_of, opens};
 ghost use Rattle.vir_cert.specs.Derivations.{separator_of, up_to};
 ghost use Rattle.vir_cert.specs.Seen.{rule_seen};
 
-use crate::label::front;
 use std::alloc::Global;
-use vir_read::{Symbol, TextError, TextKind, Token, span};
+use vir_read::{Symbol, TextError, TextKind, Token, front, read_symbol, span, unexpected};
 use vir_rules::{Children, Derivation, RuleId};
 
 // How deep a derivation may be nested.
@@ -62,22 +60,16 @@ fn rule_up_to(last: usize, name: &[u8]) -> Option<RuleId>
 
 // The name of one of the first so many rules, at an index.
 fn read_name(text: &[u8], list: &[Token], at: usize, last: usize) -> Result<RuleAt, TextError>
-    ensures exact { Gives (λ found. (rule_seen found, drop (at + 1) list.now)) result
-        (name_of text.now last (drop at list.now)) }
+    ensures exact { Gives (λ found. (rule_seen found, drop (at + 1) list.now)) result (name_of text.now last (drop at list.now)) }
     ensures within { OnOk result (at < length list.now) }
 {
-    match front(list, at) {
-        None => Err(TextError::fault(TextKind::Unexpected, text.len())),
-        Some(token) => match token.symbol(text) {
-            Symbol::Word => match rule_up_to(last, span(text, token.start, token.end)) {
-                None => Err(TextError::fault(TextKind::UnknownRule, token.start)),
-                Some(rule) => Ok(RuleAt {
-                    rule,
-                    at: token.start,
-                }),
-            },
-            _ => Err(TextError::fault(TextKind::Unexpected, token.start)),
-        },
+    let token = read_symbol(text, list, at, Symbol::Word)?;
+    match rule_up_to(last, span(text, token.start, token.end)) {
+        None => Err(TextError::fault(TextKind::UnknownRule, token.start)),
+        Some(rule) => Ok(RuleAt {
+            rule,
+            at: token.start,
+        }),
     }
 }
 
@@ -87,11 +79,11 @@ fn read_separator(text: &[u8], list: &[Token], at: usize) -> Result<Separator, T
     ensures within { OnOk result (at < length list.now) }
 {
     match front(list, at) {
-        None => Err(TextError::fault(TextKind::Unexpected, text.len())),
+        None => Err(unexpected(text, list, at)),
         Some(token) => match token.symbol(text) {
             Symbol::Comma => Ok(Separator::Comma),
             Symbol::CloseParenthesis => Ok(Separator::Close),
-            _ => Err(TextError::fault(TextKind::Unexpected, token.start)),
+            _ => Err(unexpected(text, list, at)),
         },
     }
 }
@@ -144,7 +136,7 @@ fn read_children(
             Err(e) => return Err(e),
         }
     }
-    Err(fault_at_end(text, list, at))
+    Err(unexpected(text, list, at))
 }
 
 // What stands behind a rule's name, whose children are of at most this nesting.
@@ -203,16 +195,6 @@ fn read_within(
         return Err(TextError::fault(TextKind::TooDeep, found.at));
     }
     read_behind(alloc, text, list, found.rule, from + 1, last, room - 1)
-}
-
-// That something is missing where the tokens end.
-fn fault_at_end(text: &[u8], list: &[Token], at: usize) -> TextError
-    ensures { Fails result (unexpected {A = List RuleTree} text.now (drop at list.now)) }
-{
-    match front(list, at) {
-        None => TextError::fault(TextKind::Unexpected, text.len()),
-        Some(token) => TextError::fault(TextKind::Unexpected, token.start),
-    }
 }
 
 // A derivation by the first so many rules, from the token at index `from` on. The error is the first in the text of

@@ -1,19 +1,10 @@
 // Tokens one by one: the header, the words that parts begin with, and the end.
-ghost use Rattle.std.specs.Prelude.{◌≡◌, ◌+◌, ◌<◌, ◌≤◌, ◌∷◌, [], length, drop, MatchOption, IfOk, OnOk};
+ghost use Rattle.std.specs.Prelude.{◌≡◌, ◌+◌, ◌<◌, ◌≤◌, length, drop, IfOk, OnOk};
 ghost use Rattle.vir_read.specs.Faults.{Gives};
 ghost use Rattle.vir_cert.specs.Certs.{end_of, header_of, is_written, label_of, version_in};
 
 use crate::version::Version;
-use vir_read::{TextError, TextKind, Token, span};
-
-// The token at an index, where there is one.
-#[tactic(auto, using(crate::proofs::TokenLemmas::drop_here, crate::proofs::TokenLemmas::drop_gone))]
-pub(crate) fn front(list: &[Token], at: usize) -> Option<Token>
-    ensures { MatchOption result (drop at list.now ≡ [])
-        (λ t. (drop at list.now ≡ t ∷ drop (at + 1) list.now) × (at < length list.now)) }
-{
-    list.get(at).copied()
-}
+use vir_read::{TextError, TextKind, Token, front, span, unexpected};
 
 // Whether a token is written so.
 fn is_written(text: &[u8], token: Token, wanted: &[u8]) -> bool
@@ -33,12 +24,12 @@ pub(crate) fn read_label(
     ensures within { OnOk result (at < length list.now) }
 {
     match front(list, at) {
-        None => Err(TextError::fault(TextKind::Unexpected, text.len())),
+        None => Err(unexpected(text, list, at)),
         Some(token) => {
             if is_written(text, token, wanted) {
                 Ok(())
             } else {
-                Err(TextError::fault(TextKind::Unexpected, token.start))
+                Err(unexpected(text, list, at))
             }
         }
     }
