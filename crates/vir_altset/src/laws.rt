@@ -16,8 +16,8 @@ pub fn split_sizes()
 pub fn split_join()
     ensures { (a : Set) (s t : Split) → IsSplitOf a s → IsSplitOf s.deferred t
         → IsSplitOf a (record {
-            elected = set.union s.elected t.elected;
-            rejected = set.union s.rejected t.rejected;
-            deferred = t.deferred;
+          elected = set.union s.elected t.elected;
+          rejected = set.union s.rejected t.rejected;
+          deferred = t.deferred;
         }) }
 {}
