@@ -10,3 +10,4 @@ pub mod SpelledFree
 pub mod RoundTripCerts
 pub mod Accepted
 pub mod FirstVersion
+pub mod ValidFlat

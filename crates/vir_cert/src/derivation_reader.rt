@@ -60,7 +60,8 @@ fn rule_up_to(last: usize, name: &[u8]) -> Option<RuleId>
 
 // The name of one of the first so many rules, at an index.
 fn read_name(text: &[u8], list: &[Token], at: usize, last: usize) -> Result<RuleAt, TextError>
-    ensures exact { Gives (λ found. (rule_seen found, drop (at + 1) list.now)) result (name_of text.now last (drop at list.now)) }
+    ensures exact { Gives (λ found. (rule_seen found, drop (at + 1) list.now)) result
+        (name_of text.now last (drop at list.now)) }
     ensures within { OnOk result (at < length list.now) }
 {
     let token = read_symbol(text, list, at, Symbol::Word)?;

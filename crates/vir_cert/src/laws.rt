@@ -1,5 +1,12 @@
 // Laws of certificates. The functions do nothing; their contracts are what is proved of the definitions.
 ghost use Rattle.std.specs.Prelude.{ℕ, List, ◌≡◌, ◌≤◌, Ok, length};
+ghost use Rattle.vir_term.specs.declared.prop.Prop.{Prop};
+ghost use Rattle.vir_term.specs.Limits.{IsWithinLimits};
+ghost use Rattle.vir_term.specs.Tree.{Tree, nesting as term_levels};
+ghost use Rattle.vir_rules.specs.Claims.{of};
+ghost use Rattle.vir_rules.specs.Derivations.{Valid};
+ghost use Rattle.vir_rules.specs.Named.{IsPropInRange};
+ghost use Rattle.vir_rules.specs.RuleTrees.{RuleTree, nesting as levels};
 ghost use Rattle.vir_cert.specs.Certs.{Cert, cert_of};
 ghost use Rattle.vir_cert.specs.FirstReader.{first_cert_of};
 ghost use Rattle.vir_cert.specs.Texts.{IsCert, cert_text};
@@ -19,4 +26,11 @@ pub fn accepted_certificates_are_within_limits()
 /// certificate.
 pub fn first_certificates_are_read()
     ensures { (text : List ℕ) (c : Cert) → first_cert_of text ≡ Ok c → cert_of text ≡ Ok c }
+{}
+
+/// A derivation that is valid for a property of a term within the limits has at most three levels for each level of
+/// the term, so such a certificate can be printed and read, if the text isn't too long.
+pub fn valid_certificates_are_within_limits()
+    ensures levels { (d : RuleTree) (p : Prop) (t : Tree) → Valid d (of p t) → term_levels t ≤ 64 → levels d ≤ 192 }
+    ensures certificates { (c : Cert) → IsWithinLimits c.term → IsPropInRange c.prop → Valid c.derivation (of c.prop c.term) → IsCert c }
 {}

@@ -158,9 +158,7 @@ fn what_is_just_not_too_deep_is_read(rt: HostRuntime) -> Result<(), AllocError> 
 #[test]
 fn a_text_of_too_many_bytes_is_refused(rt: HostRuntime) -> Result<(), AllocError> {
     let alloc = rt.alloc();
-    let mut text = vec![in alloc; b' '; 16_777_216]?;
-    assert!(rt; has_fault(alloc, &text, BadHeader, 0));
-    text.push(b' ')?;
+    let text = vec![in alloc; b' '; 16_777_217]?;
     assert!(rt; has_fault(alloc, &text, TextTooLong, 16_777_216));
     Ok(())
 }
