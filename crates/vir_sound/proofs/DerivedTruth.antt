@@ -20,7 +20,8 @@ use Rattle.vir_rules.specs.RuleTrees.{RuleTree, RuleTrees, node, none, more}
 use Rattle.vir_rules.specs.Table.{Rule, table}
 use Rattle.vir_sound.specs.Truth.{IsTrueClaim, AllTrue, IsProper, IsProperClaim, IsSoundRow}
 use Rattle.vir_sound.proofs.Shapes.{some_same, none_some}
-use Rattle.vir_sound.proofs.AllRows.{AllSound, rows_sound}
+use Rattle.vir_sound.proofs.AllRows.{rows_sound}
+use Rattle.vir_sound.proofs.SoundRows.{AllSound}
 
 -- ---- premises of terms whose numbers are at least 1 are about such terms
 abbrev AllProper : List Claim → Type 0

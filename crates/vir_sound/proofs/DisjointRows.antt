@@ -13,6 +13,7 @@ use Rattle.vir_rules.specs.Table.{table}
 use Rattle.vir_sound.specs.Truth.{IsSound}
 use Rattle.vir_sound.proofs.DisjointLaws.{disj_drop_pass, disj_pass_drop, disj_rev_left, disj_rev_right, disj_seq_left, disj_seq_right}
 use Rattle.vir_sound.proofs.Shapes.{by_pairing, false_true, some_same, none_some}
+use Rattle.vir_sound.proofs.SoundRows.{AllSound, rows_from}
 
 -- orders that are equal place by place are one
 pointwise-one : (order other : List ℕ) → pointwise nat_eq order other ≡ true → order ≡ other
@@ -101,3 +102,8 @@ disj_rev_left_sound = record { named = refl; sound = by_pairing RevLeft (row_of 
 pub disj_rev_right_sound : IsSound 82 (codes "disj-rev-right")
 unfolding row_of table
 disj_rev_right_sound = record { named = refl; sound = by_pairing RevRight (row_of 82) refl rev_right }
+
+-- the rows 77 to 82
+pub disjoint_sound : AllSound (rows_from 77 6)
+unfolding row_of table
+disjoint_sound = (disj_pass_drop_sound.sound, (disj_drop_pass_sound.sound, (disj_seq_left_sound.sound, (disj_seq_right_sound.sound, (disj_rev_left_sound.sound, (disj_rev_right_sound.sound, tt))))))

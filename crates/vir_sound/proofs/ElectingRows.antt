@@ -10,6 +10,7 @@ use Rattle.vir_rules.specs.Table.{table}
 use Rattle.vir_sound.specs.Truth.{IsSound}
 use Rattle.vir_sound.proofs.ElectingLaws.{ea_leaf, ea_par_left, ea_par_right, ea_seq, el_ea, el_leaf, el_par_left, el_par_right, el_seq_first, el_seq_second, ne_leaf, ne_loop, ne_par, ne_rev, ne_seq}
 use Rattle.vir_sound.proofs.Shapes.{by_any, by_loop, by_until, by_module, by_par, by_rev, by_seq}
+use Rattle.vir_sound.proofs.SoundRows.{AllSound, rows_from}
 
 pub ne_leaf_sound : IsSound 1 (codes "ne-leaf")
 unfolding row_of table
@@ -74,3 +75,13 @@ el_ea_sound = record { named = refl; sound = by_any El (row_of 15) refl (λ m. e
 pub ne_until_sound : IsSound 89 (codes "ne-until")
 unfolding row_of table
 ne_until_sound = record { named = refl; sound = by_until Ne (row_of 89) refl (λ k m some. ne_loop (at_most k) (mean m) some (mean-split m)) }
+
+-- the rows 1 to 15
+pub electing_sound : AllSound (rows_from 1 15)
+unfolding row_of table
+electing_sound = (ne_leaf_sound.sound, (ne_rev_sound.sound, (ne_seq_sound.sound, (ne_par_sound.sound, (ne_loop_sound.sound, (ea_leaf_sound.sound, (ea_seq_sound.sound, (ea_par_left_sound.sound, (ea_par_right_sound.sound, (el_leaf_sound.sound, (el_seq_first_sound.sound, (el_seq_second_sound.sound, (el_par_left_sound.sound, (el_par_right_sound.sound, (el_ea_sound.sound, tt)))))))))))))))
+
+-- row 89
+pub until_electing_sound : AllSound (rows_from 89 1)
+unfolding row_of table
+until_electing_sound = (ne_until_sound.sound, tt)

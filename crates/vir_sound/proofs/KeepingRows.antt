@@ -10,6 +10,7 @@ use Rattle.vir_rules.specs.Table.{table}
 use Rattle.vir_sound.specs.Truth.{IsSound}
 use Rattle.vir_sound.proofs.KeepingLaws.{decr_defers, decr_elim, decr_leaf, decr_rejects, decr_seq, nb_defers, nb_el, nb_leaf, nb_loop, nb_par_left, nb_par_right, nb_rev, nb_seq}
 use Rattle.vir_sound.proofs.Shapes.{by_any, by_loop, by_until, by_module, by_par, by_rev, by_seq}
+use Rattle.vir_sound.proofs.SoundRows.{AllSound, rows_from}
 
 pub nb_leaf_sound : IsSound 24 (codes "nb-leaf")
 unfolding row_of table
@@ -66,3 +67,13 @@ decr_defers_sound = record { named = refl; sound = by_any Decr (row_of 36) refl 
 pub nb_until_sound : IsSound 92 (codes "nb-until")
 unfolding row_of table
 nb_until_sound = record { named = refl; sound = by_until Nb (row_of 92) refl (λ k m some. nb_loop (at_most k) (mean m) some (mean-split m)) }
+
+-- the rows 24 to 36
+pub keeping_sound : AllSound (rows_from 24 13)
+unfolding row_of table
+keeping_sound = (nb_leaf_sound.sound, (nb_rev_sound.sound, (nb_seq_sound.sound, (nb_par_left_sound.sound, (nb_par_right_sound.sound, (nb_loop_sound.sound, (nb_el_sound.sound, (nb_defers_sound.sound, (decr_leaf_sound.sound, (decr_seq_sound.sound, (decr_elim_sound.sound, (decr_rejects_sound.sound, (decr_defers_sound.sound, tt)))))))))))))
+
+-- row 92
+pub until_keeping_sound : AllSound (rows_from 92 1)
+unfolding row_of table
+until_keeping_sound = (nb_until_sound.sound, tt)

@@ -1,4 +1,5 @@
 pub mod Shapes
+pub mod SoundRows
 pub mod FirstMembers
 pub mod MeaningLemmas
 pub mod Leaders
@@ -30,4 +31,6 @@ pub mod WinnerLeaves
 pub mod NeutralLaws
 pub mod NeutralRows
 pub mod AllRows
+pub mod SmallElections
+pub mod WrongRows
 pub mod DerivedTruth

@@ -14,6 +14,7 @@ use Rattle.vir_sound.proofs.LiftParallels.{dli_par, dmono_par, mono_par}
 use Rattle.vir_sound.proofs.LiftRevisions.{dimono_dli, dimono_rev, dmono_dimono, dmono_dli, dmono_rev, mono_ea, mono_imono, mono_ne}
 use Rattle.vir_sound.proofs.LiftSequences.{dli_seq_both, dli_seq_one, mono_seq_defers, mono_seq_ea}
 use Rattle.vir_sound.proofs.Shapes.{by_any, by_loop, by_until, by_module, by_par, by_rev, by_seq}
+use Rattle.vir_sound.proofs.SoundRows.{AllSound, rows_from}
 
 pub dli_leaf_sound : IsSound 37 (codes "dli-leaf")
 unfolding row_of table
@@ -98,3 +99,13 @@ mono_imono_sound = record { named = refl; sound = by_any Mono (row_of 56) refl (
 pub dli_until_sound : IsSound 93 (codes "dli-until")
 unfolding row_of table
 dli_until_sound = record { named = refl; sound = by_until Dli (row_of 93) refl (λ k m some. dli_loop (at_most k) (mean m) some (mean-split m)) }
+
+-- the rows 37 to 56
+pub lifts_sound : AllSound (rows_from 37 20)
+unfolding row_of table
+lifts_sound = (dli_leaf_sound.sound, (dli_seq_both_sound.sound, (dli_seq_one_sound.sound, (dli_par_sound.sound, (dli_loop_sound.sound, (imono_leaf_sound.sound, (dimono_leaf_sound.sound, (dimono_rev_sound.sound, (dimono_dli_sound.sound, (dmono_leaf_sound.sound, (dmono_rev_sound.sound, (dmono_par_sound.sound, (dmono_dli_sound.sound, (dmono_dimono_sound.sound, (mono_seq_defers_sound.sound, (mono_seq_ea_sound.sound, (mono_par_sound.sound, (mono_ne_sound.sound, (mono_ea_sound.sound, (mono_imono_sound.sound, tt))))))))))))))))))))
+
+-- row 93
+pub until_lifts_sound : AllSound (rows_from 93 1)
+unfolding row_of table
+until_lifts_sound = (dli_until_sound.sound, tt)

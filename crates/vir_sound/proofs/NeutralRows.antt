@@ -10,6 +10,7 @@ use Rattle.vir_rules.specs.Table.{table}
 use Rattle.vir_sound.specs.Truth.{IsSound}
 use Rattle.vir_sound.proofs.NeutralLaws.{neut_leaf, neut_loop, neut_par, neut_rev, neut_seq}
 use Rattle.vir_sound.proofs.Shapes.{by_loop, by_module, by_par, by_rev, by_seq, by_until}
+use Rattle.vir_sound.proofs.SoundRows.{AllSound, rows_from}
 
 pub neut_leaf_sound : IsSound 83 (codes "neut-leaf")
 unfolding row_of table
@@ -34,3 +35,8 @@ neut_loop_sound = record { named = refl; sound = by_loop Neut (row_of 87) refl (
 pub neut_until_sound : IsSound 88 (codes "neut-until")
 unfolding row_of table
 neut_until_sound = record { named = refl; sound = by_until Neut (row_of 88) refl (λ k m some. neut_loop (at_most k) (mean m) some (mean-split m)) }
+
+-- the rows 83 to 88
+pub neutral_sound : AllSound (rows_from 83 6)
+unfolding row_of table
+neutral_sound = (neut_leaf_sound.sound, (neut_rev_sound.sound, (neut_seq_sound.sound, (neut_par_sound.sound, (neut_loop_sound.sound, (neut_until_sound.sound, tt))))))

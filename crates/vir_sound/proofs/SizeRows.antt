@@ -15,6 +15,7 @@ use Rattle.vir_rules.specs.Table.{table}
 use Rattle.vir_sound.specs.Truth.{IsSound, IsProper}
 use Rattle.vir_sound.proofs.SizeLaws.{defers_leaf, defers_loop_elim, defers_loop_one, defers_until_elim, defers_until_one, defers_seq_both, defers_seq_one, elim_par_left, elim_par_right, rejects_leaf}
 use Rattle.vir_sound.proofs.Shapes.{by_defers, by_loop_1, by_until_1, by_par, by_rejects, by_seq, false_true}
+use Rattle.vir_sound.proofs.SoundRows.{AllSound, rows_from}
 
 -- `pass` of the number, whatever its order
 pass_k : (k : ℕ) (t : Tree) → is_shaped PassK k (form_of t) ≡ true → IsProper t → Holds (Defers k) (mean t)
@@ -80,3 +81,13 @@ defers_until_elim_sound = record { named = refl; sound = by_defers UntilK (row_o
 pub defers_until_one_sound : IsSound 91 (codes "defers-until-one")
 unfolding row_of table
 defers_until_one_sound = record { named = refl; sound = by_until_1 (Defers 1) (row_of 91) refl (λ m. defers_until_one (mean m) (mean-split m)) }
+
+-- the rows 16 to 23
+pub sizes_sound : AllSound (rows_from 16 8)
+unfolding row_of table
+sizes_sound = (defers_leaf_sound.sound, (defers_seq_one_sound.sound, (defers_seq_both_sound.sound, (defers_loop_elim_sound.sound, (defers_loop_one_sound.sound, (rejects_leaf_sound.sound, (elim_par_left_sound.sound, (elim_par_right_sound.sound, tt))))))))
+
+-- the rows 90 to 91
+pub until_sizes_sound : AllSound (rows_from 90 2)
+unfolding row_of table
+until_sizes_sound = (defers_until_elim_sound.sound, (defers_until_one_sound.sound, tt))

@@ -14,6 +14,7 @@ use Rattle.vir_sound.proofs.WinnerParallels.{cc_par, ccomp_par, dcc_par}
 use Rattle.vir_sound.proofs.WinnerRevisions.{ccomp_cc, ccomp_cprog, cprog_dcc, dcc_rev}
 use Rattle.vir_sound.proofs.WinnerSequences.{cc_seq_ccomp, cc_seq_dcc, cc_seq_first, ccomp_seq, cprog_seq_first, cprog_seq_second, dcc_seq_ccomp, dcc_seq_first}
 use Rattle.vir_sound.proofs.Shapes.{by_any, by_loop, by_until, by_loop_1, by_until_1, by_module, by_par, by_rev, by_seq}
+use Rattle.vir_sound.proofs.SoundRows.{AllSound, rows_from}
 
 pub cc_seq_first_sound : IsSound 57 (codes "cc-seq-first")
 unfolding row_of table
@@ -102,3 +103,13 @@ ccomp_until_sound = record { named = refl; sound = by_until Ccomp (row_of 95) re
 pub dcc_until_sound : IsSound 94 (codes "dcc-until")
 unfolding row_of table
 dcc_until_sound = record { named = refl; sound = by_until_1 Dcc (row_of 94) refl (λ m. dcc_until (mean m) (mean-split m)) }
+
+-- the rows 57 to 76
+pub winners_sound : AllSound (rows_from 57 20)
+unfolding row_of table
+winners_sound = (cc_seq_first_sound.sound, (cc_seq_dcc_sound.sound, (cc_seq_ccomp_sound.sound, (cc_par_sound.sound, (dcc_leaf_sound.sound, (dcc_rev_sound.sound, (dcc_seq_ccomp_sound.sound, (dcc_seq_first_sound.sound, (dcc_par_sound.sound, (dcc_loop_sound.sound, (cprog_leaf_sound.sound, (cprog_seq_first_sound.sound, (cprog_seq_second_sound.sound, (cprog_dcc_sound.sound, (ccomp_leaf_sound.sound, (ccomp_seq_sound.sound, (ccomp_par_sound.sound, (ccomp_loop_sound.sound, (ccomp_cprog_sound.sound, (ccomp_cc_sound.sound, tt))))))))))))))))))))
+
+-- the rows 94 to 95
+pub until_winners_sound : AllSound (rows_from 94 2)
+unfolding row_of table
+until_winners_sound = (dcc_until_sound.sound, (ccomp_until_sound.sound, tt))

@@ -19,5 +19,6 @@ pub mod neutral;
 pub mod sizes;
 mod soundness;
 pub mod winners;
+pub mod wrong_rules;
 
 pub use soundness::{terms_within_limits_are_proper, valid_derivations_are_true};
