@@ -3,8 +3,7 @@ use Rattle.std.proofs.Common.{◌≡◌, ℕ, ◌+◌, not, ◌||◌, List, [], 
 use Rattle.std.specs.List.{flat_map, list_any, slice_split, before_first, after_first}
 use Rattle.std.specs.Option.{ok_or}
 use Rattle.std.proofs.lemmas.List.{map-append}
-use Rattle.vir_profile.specs.declared.profile.TheConstants.{LINES_LIMIT}
-use Rattle.vir_profile.specs.Profiles.{voters_limit, total_weight}
+use Rattle.vir_profile.specs.Profiles.{lines_limit, voters_limit, total_weight}
 use Rattle.vir_profile.specs.declared.ballot.Entry.{Entry}
 use Rattle.vir_profile.specs.SocFiles.{File}
 use Rattle.vir_soc.specs.declared.key.Key.{Key}
@@ -53,8 +52,8 @@ order_is m before (part ∷ parts) order h =
 with_order_is : (m : ℕ) (votes : List Entry) (count : ℕ) (order : List ℕ) (new : List Entry) → with_order m votes count order ≡ Ok new → new ≡ votes ++ record { weight = count; order = order } ∷ []
 with_order_is m votes count order new h =
     let last : Result (List Entry) SocKind = Ok (votes ++ record { weight = count; order = order } ∷ []) in
-    let a = bound (refuse (nat_lt (length order) m) kinds.Short) (λ _. refuse (nat_le LINES_LIMIT (length votes)) kinds.TooManyOrders >>= λ _. refuse (nat_lt voters_limit (total_weight votes + count)) kinds.TooManyVoters >>= λ _. last) new h in
-    let b = bound (refuse (nat_le LINES_LIMIT (length votes)) kinds.TooManyOrders) (λ _. refuse (nat_lt voters_limit (total_weight votes + count)) kinds.TooManyVoters >>= λ _. last) new a.2 in
+    let a = bound (refuse (nat_lt (length order) m) kinds.Short) (λ _. refuse (nat_le lines_limit (length votes)) kinds.TooManyOrders >>= λ _. refuse (nat_lt voters_limit (total_weight votes + count)) kinds.TooManyVoters >>= λ _. last) new h in
+    let b = bound (refuse (nat_le lines_limit (length votes)) kinds.TooManyOrders) (λ _. refuse (nat_lt voters_limit (total_weight votes + count)) kinds.TooManyVoters >>= λ _. last) new a.2 in
     let d = bound (refuse (nat_lt voters_limit (total_weight votes + count)) kinds.TooManyVoters) (λ _. last) new b.2 in
     cc d.2
 

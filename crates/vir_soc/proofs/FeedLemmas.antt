@@ -9,7 +9,7 @@ use Rattle.vir_soc.specs.declared.kind.SocKind.TheVariants.{FileTooLong}
 use Rattle.vir_soc.specs.Checks.{◌>>=◌, at_line, refuse, fault_of}
 use Rattle.vir_soc.specs.Lines.{lines, last_line}
 use Rattle.vir_soc.specs.Content.{Content, nothing}
-use Rattle.vir_soc.specs.declared.soc_reader.TheConstants.{SIZE_LIMIT}
+use Rattle.vir_soc.specs.Limits.{profile_size_limit}
 use Rattle.vir_soc.specs.Soc.{settled, settled_content}
 use Rattle.vir_soc.specs.Reader.Pieces.{after_texts, ended, unended, Progress, Reading, reads, feeds}
 use Rattle.vir_soc.specs.Reader.Stands.{standing}
@@ -29,32 +29,32 @@ take_over n xs ys =
 
 -- a test of the size, and then the state
 abbrev sized : ℕ → Progress → Result Reading SocFault
-sized size p = at_line p.line (refuse (nat_lt SIZE_LIMIT size) FileTooLong) >>= λ _. Ok (record { progress = p; size = size })
+sized size p = at_line p.line (refuse (nat_lt profile_size_limit size) FileTooLong) >>= λ _. Ok (record { progress = p; size = size })
 
-over_or_not : (size : ℕ) (p : Progress) (ys : List ℕ) → (reads p (take (SIZE_LIMIT - size) ys) >>= sized (size + length ys)) ≡ (sized size p >>= λ r. feeds r ys)
+over_or_not : (size : ℕ) (p : Progress) (ys : List ℕ) → (reads p (take (profile_size_limit - size) ys) >>= sized (size + length ys)) ≡ (sized size p >>= λ r. feeds r ys)
 over_or_not size p ys =
-    elim (cases_lt SIZE_LIMIT size) [
+    elim (cases_lt profile_size_limit size) [
       | inl lt ↦ (
-          let e : SIZE_LIMIT - size ≡ 0 = omega arith in
-          let t : nat_lt SIZE_LIMIT size ≡ true = grind (arith, nat_tests) in
-          let u : nat_lt SIZE_LIMIT (size + length ys) ≡ true = grind (arith, nat_tests) in
+          let e : profile_size_limit - size ≡ 0 = omega arith in
+          let t : nat_lt profile_size_limit size ≡ true = grind (arith, nat_tests) in
+          let u : nat_lt profile_size_limit (size + length ys) ≡ true = grind (arith, nat_tests) in
           rw (e, reads_nothing p, t, u) refl)
       | inr le ↦ (
-          let t : nat_lt SIZE_LIMIT size ≡ false = grind (arith, nat_tests) in
+          let t : nat_lt profile_size_limit size ≡ false = grind (arith, nat_tests) in
           rw t refl)
     ]
 
-then_piece : (r : Result Progress SocFault) (size : ℕ) (ys : List ℕ) → ((r >>= λ q. reads q (take (SIZE_LIMIT - size) ys)) >>= sized (size + length ys)) ≡ ((r >>= sized size) >>= λ q. feeds q ys)
+then_piece : (r : Result Progress SocFault) (size : ℕ) (ys : List ℕ) → ((r >>= λ q. reads q (take (profile_size_limit - size) ys)) >>= sized (size + length ys)) ≡ ((r >>= sized size) >>= λ q. feeds q ys)
 then_piece (Err f) size ys = refl
 then_piece (Ok p) size ys = over_or_not size p ys
 
 -- feeding in pieces is feeding
 pub feeds_append : (r : Reading) (xs ys : List ℕ) → feeds r (xs ++ ys) ≡ (feeds r xs >>= λ q. feeds q ys)
 feeds_append r xs ys =
-    let room = SIZE_LIMIT - r.size in
-    let e : SIZE_LIMIT - r.size - length xs ≡ SIZE_LIMIT - (r.size + length xs) = omega arith in
+    let room = profile_size_limit - r.size in
+    let e : profile_size_limit - r.size - length xs ≡ profile_size_limit - (r.size + length xs) = omega arith in
     let n : r.size + length (xs ++ ys) ≡ r.size + length xs + length ys = omega (arith, length-append xs ys) in
-    rw (take_over room xs ys, e, n, reads_append r.progress (take room xs) (take (SIZE_LIMIT - (r.size + length xs)) ys)) (then_piece (reads r.progress (take room xs)) (r.size + length xs) ys)
+    rw (take_over room xs ys, e, n, reads_append r.progress (take room xs) (take (profile_size_limit - (r.size + length xs)) ys)) (then_piece (reads r.progress (take room xs)) (r.size + length xs) ys)
 
 -- ---- from the start
 
@@ -65,28 +65,28 @@ abbrev put : ℕ → List ℕ → Content → Result Progress SocFault
 put line begun content = Ok (record { content = content; line = line; begun = begun })
 
 -- a file that is too long, of which some lines say this
-past : (r : Result Content SocFault) (line : ℕ) (begun : List ℕ) (size : ℕ) (f : Content → Reading) → nat_lt SIZE_LIMIT size ≡ true → ((r >>= λ _. at_line {A = Content} line (Err FileTooLong)) >>= λ s. Ok (f s)) ≡ ((r >>= put line begun) >>= sized size)
+past : (r : Result Content SocFault) (line : ℕ) (begun : List ℕ) (size : ℕ) (f : Content → Reading) → nat_lt profile_size_limit size ≡ true → ((r >>= λ _. at_line {A = Content} line (Err FileTooLong)) >>= λ s. Ok (f s)) ≡ ((r >>= put line begun) >>= sized size)
 past (Err e) line begun size f t = refl
 past (Ok s) line begun size f t = rw t refl
 
-within : (r : Result Content SocFault) (line : ℕ) (begun : List ℕ) (size : ℕ) → nat_lt SIZE_LIMIT size ≡ false → (r >>= λ s. Ok (record { progress = record { content = s; line = line; begun = begun }; size = size })) ≡ ((r >>= put line begun) >>= sized size)
+within : (r : Result Content SocFault) (line : ℕ) (begun : List ℕ) (size : ℕ) → nat_lt profile_size_limit size ≡ false → (r >>= λ s. Ok (record { progress = record { content = s; line = line; begun = begun }; size = size })) ≡ ((r >>= put line begun) >>= sized size)
 within (Err e) line begun size t = refl
 within (Ok s) line begun size t = rw t refl
 
 -- the bytes so far are the first piece
 pub standing_is : (bytes : List ℕ) → standing bytes ≡ feeds start bytes
 standing_is bytes =
-    let w = take SIZE_LIMIT bytes in
+    let w = take profile_size_limit bytes in
     let z = zero-add (length bytes) in
-    elim (cases_lt SIZE_LIMIT (length bytes)) [
+    elim (cases_lt profile_size_limit (length bytes)) [
       | inl lt ↦ (
-          let s : nat_le (length bytes) SIZE_LIMIT ≡ false = grind (arith, nat_tests) in
-          let t : nat_lt SIZE_LIMIT (length bytes) ≡ true = grind (arith, nat_tests) in
+          let s : nat_le (length bytes) profile_size_limit ≡ false = grind (arith, nat_tests) in
+          let t : nat_lt profile_size_limit (length bytes) ≡ true = grind (arith, nat_tests) in
           rw (s, z, ended_lines-is w, length-lines w, ← kinds_from-first (ended [] w)) (past (after_texts nothing 1 (ended [] w)) (1 + length (ended [] w)) (unended [] w) (length bytes) (λ content. record { progress = record { content = content; line = length (lines bytes); begun = last_line bytes }; size = length bytes }) t))
       | inr le ↦ (
-          let s : nat_le (length bytes) SIZE_LIMIT ≡ true = grind (arith, nat_tests) in
-          let t : nat_lt SIZE_LIMIT (length bytes) ≡ false = grind (arith, nat_tests) in
-          let e : take SIZE_LIMIT bytes ≡ bytes = take_all SIZE_LIMIT bytes le in
+          let s : nat_le (length bytes) profile_size_limit ≡ true = grind (arith, nat_tests) in
+          let t : nat_lt profile_size_limit (length bytes) ≡ false = grind (arith, nat_tests) in
+          let e : take profile_size_limit bytes ≡ bytes = take_all profile_size_limit bytes le in
           rw (s, z, e, ended_lines-is bytes, last_line-is bytes, length-lines bytes, ← kinds_from-first (ended [] bytes)) (within (after_texts nothing 1 (ended [] bytes)) (1 + length (ended [] bytes)) (unended [] bytes) (length bytes) t))
     ]
 

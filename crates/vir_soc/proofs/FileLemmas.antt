@@ -13,7 +13,7 @@ use Rattle.vir_soc.specs.Lines.{lines}
 use Rattle.vir_soc.specs.Names.{names_up_to}
 use Rattle.vir_soc.specs.Content.{Content}
 use Rattle.vir_soc.specs.Soc.{agrees, ended_content, file_of, content_of_lines, soc, too_long, complete_file}
-use Rattle.vir_soc.specs.declared.soc_reader.TheConstants.{SIZE_LIMIT}
+use Rattle.vir_soc.specs.Limits.{profile_size_limit}
 use Rattle.vir_soc.proofs.ChainLemmas.{bound, passed, went_well, was_some}
 
 -- the content of some lines, where the file is this one
@@ -52,9 +52,9 @@ too_long-err (Err e) line file h = cc
 -- its lines have no fault, and make it
 pub soc-ok : (bytes : List ℕ) (file : File) → soc bytes ≡ Ok file → (content : Content) × (content_of_lines (lines bytes) ≡ Ok content) × Makes content file
 soc-ok bytes file h =
-    elim (nat_le (length bytes) SIZE_LIMIT) as (λ b. cond b (file_of (lines bytes)) (too_long (take SIZE_LIMIT bytes)) ≡ Ok file → (content : Content) × (content_of_lines (lines bytes) ≡ Ok content) × Makes content file) [
+    elim (nat_le (length bytes) profile_size_limit) as (λ b. cond b (file_of (lines bytes)) (too_long (take profile_size_limit bytes)) ≡ Ok file → (content : Content) × (content_of_lines (lines bytes) ≡ Ok content) × Makes content file) [
       | true ↦ λ e.
           let a = bound (content_of_lines (lines bytes)) (λ content. complete_file content (length (lines bytes))) file e in
           (a.0, a.1, complete_file-ok a.0 (length (lines bytes)) file a.2)
-      | false ↦ λ e. absurd (too_long-err (ended_content (take SIZE_LIMIT bytes)) (length (lines (take SIZE_LIMIT bytes))) file e)
+      | false ↦ λ e. absurd (too_long-err (ended_content (take profile_size_limit bytes)) (length (lines (take profile_size_limit bytes))) file e)
     ] h

@@ -12,7 +12,7 @@ use Rattle.vir_soc.specs.LineKinds.{LineKind, kinds_of}
 use Rattle.vir_soc.specs.Lines.{ended_lines, lines}
 use Rattle.vir_soc.specs.Content.{Content, nothing}
 use Rattle.vir_soc.specs.Soc.{after_line, after_lines, ended_content, settled, soc}
-use Rattle.vir_soc.specs.declared.soc_reader.TheConstants.{SIZE_LIMIT}
+use Rattle.vir_soc.specs.Limits.{profile_size_limit}
 use Rattle.vir_soc.proofs.LineLemmas.{kinds_from-first, length-kinds_from}
 use Rattle.vir_soc.proofs.StandLemmas.{fault_stays}
 
@@ -50,9 +50,9 @@ was_err (Ok s) f h = absurd cc
 was_err (Err g) f h = cc
 
 -- a fault that the bytes settle stands at a line that they end
-settled_line : (bytes : List ℕ) (f : SocFault) → length bytes ≤ SIZE_LIMIT → settled bytes ≡ Some f → f.line ≤ count_by is_line_feed bytes
+settled_line : (bytes : List ℕ) (f : SocFault) → length bytes ≤ profile_size_limit → settled bytes ≡ Some f → f.line ≤ count_by is_line_feed bytes
 settled_line bytes f fits h =
-    let t = le-leb (length bytes) SIZE_LIMIT fits in
+    let t = le-leb (length bytes) profile_size_limit fits in
     let e : ended_content bytes ≡ Err f = was_err (ended_content bytes) f (rw t at h) in
     let within = fault_within nothing 1 (kinds_of (ended_lines bytes)) f e in
     let last = within.1 in
@@ -60,7 +60,7 @@ settled_line bytes f fits h =
     let m = length-ended_lines bytes in
     omega arith
 
-pub lines_before_are_fine : (front back : List ℕ) (f : SocFault) → soc (front ++ back) ≡ Err f → length front ≤ SIZE_LIMIT → count_by is_line_feed front < f.line → settled front ≡ None
+pub lines_before_are_fine : (front back : List ℕ) (f : SocFault) → soc (front ++ back) ≡ Err f → length front ≤ profile_size_limit → count_by is_line_feed front < f.line → settled front ≡ None
 lines_before_are_fine front back f h fits before = of (settled front) refl where
   of : (o : Option SocFault) → settled front ≡ o → o ≡ None
   of None e = refl

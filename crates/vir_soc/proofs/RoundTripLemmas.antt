@@ -8,8 +8,7 @@ use Rattle.std.proofs.lemmas.List.Concat.{flat_map-append}
 use Rattle.std.proofs.lemmas.List.Folds.{list_any-append}
 use Rattle.std.proofs.lemmas.List.Splits.{slice_split_at}
 use Rattle.std.proofs.lemmas.List.Sums.{sum_by-cons, sum_by_push, get_or-le-sum_by}
-use Rattle.vir_profile.specs.Profiles.{IsProfile, voters_limit, Votes, total_weight}
-use Rattle.vir_profile.specs.declared.profile.TheConstants.{LINES_LIMIT}
+use Rattle.vir_profile.specs.Profiles.{lines_limit, IsProfile, voters_limit, Votes, total_weight}
 use Rattle.vir_profile.specs.SocFiles.{AreNames, File, is_line_feed}
 use Rattle.vir_profile.specs.declared.ballot.Entry.{Entry}
 use Rattle.vir_profile.specs.declared.soc_file.Name.{Name}
@@ -19,7 +18,7 @@ use Rattle.vir_soc.specs.LineKinds.{LineKind, ballots, kinds_of, metadata, skipp
 use Rattle.vir_soc.specs.Lines.{lines, trim}
 use Rattle.vir_soc.specs.Content.{Content, nothing}
 use Rattle.vir_soc.specs.Soc.{after_line, after_lines, file_of, content_of_lines, soc, complete_file}
-use Rattle.vir_soc.specs.declared.soc_reader.TheConstants.{SIZE_LIMIT}
+use Rattle.vir_soc.specs.Limits.{profile_size_limit}
 use Rattle.vir_soc.specs.SocText.{counts_text, metadata_text, name_text, order_text, soc_text, votes_text}
 use Rattle.vir_soc.proofs.AnyLemmas.{All-none, or_false}
 use Rattle.vir_soc.proofs.DigitLemmas.{line_feed_fails, list_any-decimal}
@@ -50,10 +49,10 @@ is_torn-append : (first later : List (List ℕ)) → is_torn first ≡ false →
 is_torn-append first later f l = list_any-append (λ text. list_any is_line_feed text) first later ∙ rw (f, l) refl
 
 -- the file that some lines of these kinds are, as the text of these lines is
-soc-ended_text : (texts : List (List ℕ)) (kinds : List LineKind) (content : Content) → is_torn texts ≡ false → kinds_of (texts ++ [] ∷ []) ≡ kinds ++ skipped ∷ [] → after_lines nothing 1 kinds ≡ Ok content → length (ended_text texts) ≤ SIZE_LIMIT → soc (ended_text texts) ≡ complete_file content (length (texts ++ [] ∷ []))
+soc-ended_text : (texts : List (List ℕ)) (kinds : List LineKind) (content : Content) → is_torn texts ≡ false → kinds_of (texts ++ [] ∷ []) ≡ kinds ++ skipped ∷ [] → after_lines nothing 1 kinds ≡ Ok content → length (ended_text texts) ≤ profile_size_limit → soc (ended_text texts) ≡ complete_file content (length (texts ++ [] ∷ []))
 unfolding after_lines
 soc-ended_text texts kinds content torn are read fits =
-    let fits_is = le-leb (length (ended_text texts)) SIZE_LIMIT fits in
+    let fits_is = le-leb (length (ended_text texts)) profile_size_limit fits in
     let last : content_of_lines (texts ++ [] ∷ []) ≡ Ok content = ap (after_lines nothing 1) are ∙ after_lines_append nothing 1 kinds (skipped ∷ []) ∙ rw read refl in
     rw fits_is (ap file_of (lines-ended_text texts torn) ∙ rw last refl)
 
@@ -210,7 +209,7 @@ counts_read profile h =
     let s3 : Content = record s2 { voters = Some (record { value = total_weight profile.lines; line = 3 }) } in
     rw (alternatives_read nothing 2 profile.alternatives h.some h.few refl, voters_read s2 3 (total_weight profile.lines) h.weights refl, orders_read s3 4 (length profile.lines) (omega arith) refl) refl
 
-votes_read : (m : ℕ) (content : Content) (n : ℕ) (entries : List Entry) → content.alternatives ≡ Some m → AreLines m entries → length content.votes + length entries ≤ LINES_LIMIT → total_weight content.votes + total_weight entries ≤ voters_limit → after_lines content n (map kind_of_votes entries) ≡ Ok (record content { votes = content.votes ++ entries })
+votes_read : (m : ℕ) (content : Content) (n : ℕ) (entries : List Entry) → content.alternatives ≡ Some m → AreLines m entries → length content.votes + length entries ≤ lines_limit → total_weight content.votes + total_weight entries ≤ voters_limit → after_lines content n (map kind_of_votes entries) ≡ Ok (record content { votes = content.votes ++ entries })
 unfolding after_lines
 votes_read m content n [] known h few fits = let put : List Entry → Result Content SocFault = λ votes. Ok (record content { votes = votes }) in ap put (sym (append-nil content.votes))
 votes_read m content n (e ∷ es) known h few fits =
@@ -233,7 +232,7 @@ file_read file p n =
     let named : Content = record (counted profile) { names = given_of file.names } in
     let few = p.lines in
     let fits = p.weights in
-    let few_lines : 0 + length profile.lines ≤ LINES_LIMIT = omega arith in
+    let few_lines : 0 + length profile.lines ≤ lines_limit = omega arith in
     let few_voters : 0 + total_weight profile.lines ≤ voters_limit = omega arith in
     let names = names_read profile.alternatives 0 (counted profile) (1 + length counts) file.names tt n in
     let before : after_lines nothing 1 (counts ++ map kind_of_name file.names) ≡ Ok named = after_lines_append nothing 1 counts (map kind_of_name file.names) ∙ rw (counts_read profile p) names in
@@ -245,7 +244,7 @@ unfolding complete_file
 complete_file-file file last n = rw (eq-eqb (total_weight file.profile.lines) (total_weight file.profile.lines) refl, eq-eqb (length file.profile.lines) (length file.profile.lines) refl, names_up_to-all file.profile.alternatives 0 file.names n) refl
 
 -- the text of a file is read as that file
-pub soc-soc_text : (file : File) → IsProfile file.profile → AreNames file.profile.alternatives file.names → length (soc_text file) ≤ SIZE_LIMIT → soc (soc_text file) ≡ Ok file
+pub soc-soc_text : (file : File) → IsProfile file.profile → AreNames file.profile.alternatives file.names → length (soc_text file) ≤ profile_size_limit → soc (soc_text file) ≡ Ok file
 soc-soc_text file p n fits =
     let text = soc_text-lines file in
     let same_length = ap length text in

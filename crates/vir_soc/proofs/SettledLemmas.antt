@@ -16,7 +16,7 @@ use Rattle.vir_soc.specs.Names.{names_up_to}
 use Rattle.vir_soc.specs.Reader.Pieces.{Progress, Reading, after_text, after_texts, closed, ended, feeds, kinds_from, reads, unended}
 use Rattle.vir_soc.specs.Content.{Content}
 use Rattle.vir_soc.specs.Soc.{agrees, settled, settled_content, soc, complete_file}
-use Rattle.vir_soc.specs.declared.soc_reader.TheConstants.{SIZE_LIMIT}
+use Rattle.vir_soc.specs.Limits.{profile_size_limit}
 use Rattle.vir_soc.specs.Reader.Stands.{standing}
 use Rattle.vir_soc.proofs.CutLemmas.{length-lines}
 use Rattle.vir_soc.proofs.FeedLemmas.{standing_append}
@@ -100,8 +100,8 @@ reads_on p q bytes h = of (after_texts p.content p.line (ended p.begun bytes)) h
 
 feeds_late : (r : Reading) (piece : List ℕ) (f : SocFault) → feeds r piece ≡ Err f → r.progress.line ≤ f.line
 feeds_late r piece f h =
-    let start = take (SIZE_LIMIT - r.size) piece in
-    let over = refuse (nat_lt SIZE_LIMIT (r.size + length piece)) kinds.FileTooLong in
+    let start = take (profile_size_limit - r.size) piece in
+    let over = refuse (nat_lt profile_size_limit (r.size + length piece)) kinds.FileTooLong in
     let put : Progress → Result Reading SocFault = λ p. Ok (record { progress = p; size = r.size + length piece }) in
     elim (stopped (reads r.progress start) (λ p. at_line p.line over >>= λ _. put p) f h) [
       | first e ↦ reads_late r.progress start f e

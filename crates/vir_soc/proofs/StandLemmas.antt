@@ -12,7 +12,7 @@ use Rattle.vir_soc.specs.Checks.{◌>>=◌, at_line, fault_of}
 use Rattle.vir_soc.specs.Lines.{lines, last_line}
 use Rattle.vir_soc.specs.Content.{Content, nothing}
 use Rattle.vir_soc.specs.Soc.{after_lines, ended_content, settled, settled_content, soc, complete_file}
-use Rattle.vir_soc.specs.declared.soc_reader.TheConstants.{SIZE_LIMIT}
+use Rattle.vir_soc.specs.Limits.{profile_size_limit}
 use Rattle.vir_soc.specs.Reader.Pieces.{after_text, after_texts, closed, ended, kinds_from, unended, feeds, Reading}
 use Rattle.vir_soc.specs.Reader.Stands.{kept, standing, stands}
 use Rattle.vir_soc.proofs.CutLemmas.{lines-parts, length-lines, ended_lines-is, last_line-is}
@@ -39,13 +39,13 @@ too_long_anyway (Err e) line f = refl
 
 pub soc_is : (bytes : List ℕ) → soc bytes ≡ (settled_content bytes >>= λ content. closed content (length (lines bytes)) (last_line bytes))
 soc_is bytes =
-    elim (cases_lt SIZE_LIMIT (length bytes)) [
+    elim (cases_lt profile_size_limit (length bytes)) [
       | inl lt ↦ (
-          let s : nat_le (length bytes) SIZE_LIMIT ≡ false = grind (arith, nat_tests) in
-          let w = take SIZE_LIMIT bytes in
+          let s : nat_le (length bytes) profile_size_limit ≡ false = grind (arith, nat_tests) in
+          let w = take profile_size_limit bytes in
           rw s (too_long_anyway (ended_content w) (length (lines w)) (λ content. closed content (length (lines bytes)) (last_line bytes))))
       | inr le ↦ (
-          let s : nat_le (length bytes) SIZE_LIMIT ≡ true = grind (arith, nat_tests) in
+          let s : nat_le (length bytes) profile_size_limit ≡ true = grind (arith, nat_tests) in
           let e = ended [] bytes in
           let u = unended [] bytes in
           rw (s, ended_lines-is bytes, last_line-is bytes, length-lines bytes, lines-parts bytes, ← kinds_from-first e, ← kinds_from-first (e ++ u ∷ []), after_texts_append nothing 1 e (u ∷ [])) (then_last (after_texts nothing 1 e) (1 + length e) u))

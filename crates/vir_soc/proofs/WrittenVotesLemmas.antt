@@ -10,8 +10,7 @@ use Rattle.std.proofs.lemmas.List.Folds.{list_any-append}
 use Rattle.std.proofs.lemmas.List.Splits.{slice_split_at, slice_split_none}
 use Rattle.vir_altset.specs.Sets.{limit}
 use Rattle.vir_profile.specs.OrderFaults.{fault_where, member_fault_after, or_else, order_fault}
-use Rattle.vir_profile.specs.declared.profile.TheConstants.{LINES_LIMIT}
-use Rattle.vir_profile.specs.Profiles.{voters_limit, total_weight}
+use Rattle.vir_profile.specs.Profiles.{lines_limit, voters_limit, total_weight}
 use Rattle.vir_profile.specs.SocFiles.{is_blank, is_line_feed}
 use Rattle.vir_profile.specs.declared.ballot.Entry.{Entry}
 use Rattle.vir_profile.specs.declared.refused.AddFault.{AddFault}
@@ -161,11 +160,11 @@ module _ (m : ℕ) (entry : Entry) (h : IsLine m entry) where
   number_before = ap number (trim-clean (decimal entry.weight) (IsClean-decimal entry.weight h.weight)) ∙ number-decimal entry.weight h.weight
 
   -- the votes with the line, where there is room for it
-  with_votes-line : (votes : List Entry) → length votes < LINES_LIMIT → total_weight votes + entry.weight ≤ voters_limit → with_votes m votes (votes_line entry) ≡ Ok (votes ++ entry ∷ [])
+  with_votes-line : (votes : List Entry) → length votes < lines_limit → total_weight votes + entry.weight ≤ voters_limit → with_votes m votes (votes_line entry) ≡ Ok (votes ++ entry ∷ [])
   with_votes-line votes few fits =
       let f = no_fault (member_fault_after m [] entry.order) (nat_lt (length entry.order) m) h.order in
       let brace = order_fails is_brace brace_fails refl entry.order h.small in
-      let n = lt-leb LINES_LIMIT (length votes) few in
+      let n = lt-leb lines_limit (length votes) few in
       let t = le-ltb voters_limit (total_weight votes + entry.weight) fits in
       rw (colon_inside (decimal entry.weight) (32 ∷ order_text entry.order) no_colon, before_colon (decimal entry.weight) (32 ∷ order_text entry.order) no_colon, number_before, after_colon (decimal entry.weight) (32 ∷ order_text entry.order) no_colon, brace, order_read m entry.order h.some h.small f.0, f.1, n, t) refl
 
@@ -178,5 +177,5 @@ module _ (m : ℕ) (entry : Entry) (h : IsLine m entry) where
       ap text_kind (trim-clean (votes_line entry) clean) ∙ rw (z, votes_line-hash) refl
 
   -- the content after the line
-  pub votes_line-read : (content : Content) (n : ℕ) → content.alternatives ≡ Some m → length content.votes < LINES_LIMIT → total_weight content.votes + entry.weight ≤ voters_limit → after_line content n (ballots (votes_line entry)) ≡ Ok (record content { votes = content.votes ++ entry ∷ [] })
+  pub votes_line-read : (content : Content) (n : ℕ) → content.alternatives ≡ Some m → length content.votes < lines_limit → total_weight content.votes + entry.weight ≤ voters_limit → after_line content n (ballots (votes_line entry)) ≡ Ok (record content { votes = content.votes ++ entry ∷ [] })
   votes_line-read content n known few fits = rw (known, with_votes-line content.votes few fits) refl

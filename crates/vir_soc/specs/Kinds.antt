@@ -1,4 +1,4 @@
--- The names of the kinds of faults.
+-- The numbers and the names of the kinds of faults.
 use Rattle.std.specs.Prelude.{ℕ, List, codes}
 use Rattle.vir_soc.specs.declared.kind.SocKind.{SocKind}
 use Rattle.vir_soc.specs.declared.kind.SocKind.TheVariants.{BadNumber, NoAlternativeCount, TooManyAlternatives, WrongType, BadCount, NoColon, BadEntry, OutOfRange, Repeated, Short, Tie, TooManyOrders, TooManyVoters, VotersDiffer, OrdersDiffer, FileTooLong, CountDiffers}
@@ -22,3 +22,23 @@ kind_name VotersDiffer = codes "VotersDiffer"
 kind_name OrdersDiffer = codes "OrdersDiffer"
 kind_name FileTooLong = codes "FileTooLong"
 kind_name CountDiffers = codes "CountDiffers"
+
+-- the number of a kind
+abbrev pub kind_number : SocKind → ℕ
+kind_number BadNumber = 1
+kind_number NoAlternativeCount = 2
+kind_number TooManyAlternatives = 3
+kind_number WrongType = 4
+kind_number BadCount = 5
+kind_number NoColon = 6
+kind_number BadEntry = 7
+kind_number OutOfRange = 8
+kind_number Repeated = 9
+kind_number Short = 10
+kind_number Tie = 11
+kind_number TooManyOrders = 12
+kind_number TooManyVoters = 13
+kind_number VotersDiffer = 14
+kind_number OrdersDiffer = 15
+kind_number FileTooLong = 16
+kind_number CountDiffers = 17

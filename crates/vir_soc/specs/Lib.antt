@@ -1,5 +1,6 @@
 -- the format
 pub mod Kinds
+pub mod Limits
 pub mod Checks
 pub mod Lines
 pub mod Numbers

@@ -6,7 +6,7 @@ use Rattle.vir_profile.specs.SocFiles.{File}
 use Rattle.vir_soc.specs.declared.kind.SocKind.{SocKind}
 use Rattle.vir_soc.specs.declared.kind.SocKind.TheVariants.{NoAlternativeCount, VotersDiffer, OrdersDiffer, FileTooLong}
 use Rattle.vir_soc.specs.declared.fault.SocFault.{SocFault}
-use Rattle.vir_soc.specs.declared.soc_reader.TheConstants.{SIZE_LIMIT}
+use Rattle.vir_soc.specs.Limits.{profile_size_limit}
 use Rattle.vir_soc.specs.declared.stated.Stated.{Stated}
 use Rattle.vir_soc.specs.Checks.{◌>>=◌, refuse, at_line, fault_of}
 use Rattle.vir_soc.specs.Lines.{lines, ended_lines}
@@ -64,11 +64,11 @@ too_long bytes = do
 
 -- the file that the bytes are, or its first fault
 abbrev pub soc : List ℕ → Result File SocFault
-soc bytes = if nat_le (length bytes) SIZE_LIMIT then file_of (lines bytes) else too_long (take SIZE_LIMIT bytes)
+soc bytes = if nat_le (length bytes) profile_size_limit then file_of (lines bytes) else too_long (take profile_size_limit bytes)
 
 -- the content of the ended lines of the bytes, or the first fault that the bytes settle, however they go on
 abbrev pub settled_content : List ℕ → Result Content SocFault
-settled_content bytes = if nat_le (length bytes) SIZE_LIMIT then ended_content bytes else too_long (take SIZE_LIMIT bytes)
+settled_content bytes = if nat_le (length bytes) profile_size_limit then ended_content bytes else too_long (take profile_size_limit bytes)
 
 -- the first fault that the bytes settle, however they go on
 abbrev pub settled : List ℕ → Option SocFault

@@ -3,8 +3,7 @@ use Rattle.std.specs.Prelude.{ℕ, ◌+◌, ◌||◌, Bool, not, List, [], ◌�
 use Rattle.std.specs.List.{list_any, slice_split, before_first, after_first}
 use Rattle.std.specs.Option.{ok_or}
 use Rattle.vir_profile.specs.declared.ballot.Entry.{Entry}
-use Rattle.vir_profile.specs.declared.profile.TheConstants.{LINES_LIMIT}
-use Rattle.vir_profile.specs.Profiles.{voters_limit, total_weight}
+use Rattle.vir_profile.specs.Profiles.{lines_limit, voters_limit, total_weight}
 use Rattle.vir_soc.specs.declared.kind.SocKind.{SocKind}
 use Rattle.vir_soc.specs.declared.kind.SocKind.TheVariants.{NoAlternativeCount, BadCount, NoColon, BadEntry, OutOfRange, Repeated, Short, Tie, TooManyOrders, TooManyVoters}
 use Rattle.vir_soc.specs.Checks.{◌>>=◌, refuse}
@@ -39,7 +38,7 @@ order_after m before (part ∷ parts) = do
 abbrev pub with_order : ℕ → List Entry → ℕ → List ℕ → Result (List Entry) SocKind
 with_order m votes count order = do
   _ ← refuse (nat_lt (length order) m) Short
-  _ ← refuse (nat_le LINES_LIMIT (length votes)) TooManyOrders
+  _ ← refuse (nat_le lines_limit (length votes)) TooManyOrders
   _ ← refuse (nat_lt voters_limit (total_weight votes + count)) TooManyVoters
   Ok (votes ++ record { weight = count; order = order } ∷ [])
 

@@ -1,3 +1,4 @@
+// Bytes: cutting, trimming, and numbers in digits.
 ghost use Rattle.std.specs.Prelude.{◌≡◌, ◌≤◌, ◌<◌, ◌^◌, true, false, length, min, nat_eq, MatchOption};
 ghost use Rattle.std.specs.Option.{option_map};
 ghost use Rattle.std.specs.List.{list_any, position_or_len, before_first, after_first};

@@ -1,3 +1,4 @@
+// What the lines read so far say.
 ghost use Rattle.std.specs.Prelude.{◌≡◌, OnOk};
 ghost use Rattle.vir_soc.specs.Content.{nothing};
 ghost use Rattle.vir_soc.specs.Reader.Answers.{Follows};

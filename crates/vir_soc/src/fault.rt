@@ -1,3 +1,4 @@
+// Faults of files, with their lines.
 use crate::kind::SocKind;
 use std::alloc::AllocError;
 use thiserror::Error;

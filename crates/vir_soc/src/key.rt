@@ -1,3 +1,5 @@
+// Keys of metadata.
+
 /// The keys of metadata that count.
 #[derive(Clone, Copy)]
 pub enum Key {

@@ -1,5 +1,6 @@
+// The kinds of faults.
 ghost use Rattle.std.specs.Prelude.{◌≡◌};
-ghost use Rattle.vir_soc.specs.Kinds.{kind_name};
+ghost use Rattle.vir_soc.specs.Kinds.{kind_name, kind_number};
 
 /// What is wrong with a file, in the order of the kinds' numbers, which begin at 1.
 #[derive(Clone, Copy, Debug, PartialEq, Eq)]
@@ -41,6 +42,13 @@ pub enum SocKind {
 }
 
 impl SocKind {
+    /// The kind's number, from 1 on.
+    pub fn number(self) -> u8
+        ensures { result ≡ kind_number self }
+    {
+        self as u8 + 1
+    }
+
     /// The kind's name, as it is written here.
     pub fn name(self) -> &'static str
         ensures { result.now ≡ kind_name self }

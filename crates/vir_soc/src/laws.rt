@@ -1,9 +1,10 @@
+// What holds of the format. Each law is the contract of a function that does nothing.
 ghost use Rattle.std.specs.Prelude.{◌≡◌, ◌≢◌, ◌<◌, ◌≤◌, ◌++◌, All, List, ℕ, count_by, length, map, nat_le, None, Some, Ok, Err, if◌then◌else◌};
 ghost use Rattle.vir_profile.specs.SocFiles.{File, is_line_feed, name_of};
 ghost use Rattle.vir_soc.specs.declared.fault.SocFault.{SocFault};
 ghost use Rattle.vir_soc.specs.declared.kind.SocKind.TheVariants.{VotersDiffer, OrdersDiffer};
 ghost use Rattle.vir_soc.specs.Accepted.{IsTrueOf, as_vote, last_name, metadata_lines, vote_lines, vote_of};
-ghost use Rattle.vir_soc.specs.declared.soc_reader.TheConstants.{SIZE_LIMIT};
+ghost use Rattle.vir_soc.specs.Limits.{profile_size_limit};
 ghost use Rattle.vir_soc.specs.Soc.{settled, soc};
 
 /// A fault that some bytes settle is that of each file that begins with them.
@@ -40,7 +41,7 @@ pub fn metadata_is_true()
 pub fn no_line_before_has_a_fault()
     ensures { (front back : List ℕ) (fault : SocFault)
         → soc (front ++ back) ≡ Err fault
-        → length front ≤ SIZE_LIMIT → count_by is_line_feed front < fault.line
+        → length front ≤ profile_size_limit → count_by is_line_feed front < fault.line
         → settled front ≡ None }
 {}
 

@@ -33,5 +33,5 @@ pub use laws::{
     fault_is_settled_with_its_line, fault_stays, metadata_is_true, names_are_the_last_given,
     no_line_before_has_a_fault, votes_are_lines,
 };
-pub use soc_reader::{SIZE_LIMIT, SocReader};
+pub use soc_reader::{PROFILE_SIZE_LIMIT, SocReader};
 pub use write::{write_soc, written_files_read_back};

@@ -1,3 +1,4 @@
+// A line of a file, and what it adds.
 ghost use Rattle.std.specs.Prelude.{◌≡◌, false, nat_eq, if◌then◌else◌};
 ghost use Rattle.std.specs.List.{list_any};
 ghost use Rattle.vir_profile.specs.SocFiles.{is_line_feed};

@@ -1,3 +1,4 @@
+// Lines, read from pieces that may be cut anywhere.
 ghost use Rattle.std.specs.Prelude.{◌≡◌, ◌+◌, ◌++◌, ◌<◌, ◌≤◌, ◌^◌, [], false, length, nat_eq, OnOk};
 ghost use Rattle.std.specs.List.{list_any};
 ghost use Rattle.vir_profile.specs.SocFiles.{is_line_feed};

@@ -1,3 +1,4 @@
+// Lines of metadata.
 ghost use Rattle.std.specs.Prelude.{◌≡◌, ◌≤◌, ◌<◌, false, length, Ok};
 ghost use Rattle.std.specs.List.{list_any};
 ghost use Rattle.vir_altset.specs.Sets.{limit};

@@ -1,3 +1,4 @@
+// The names that metadata gives so far.
 ghost use Rattle.std.specs.Prelude.{◌≡◌, ◌≤◌, [], IfOk, OnOk};
 ghost use Rattle.vir_profile.specs.SocFiles.{AreNames};
 ghost use Rattle.vir_soc.specs.Names.{is_name, names_up_to, with_name};

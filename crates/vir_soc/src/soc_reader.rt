@@ -1,7 +1,9 @@
+// A file, read in pieces.
 ghost use Rattle.std.specs.Prelude.{◌≡◌, ◌+◌, ◌++◌, ◌≤◌, [], List, ℕ, None, Err, OnOk, IfOk, IfErr};
 ghost use Rattle.vir_soc.specs.declared.fault.SocError.{SocError};
 ghost use Rattle.vir_soc.specs.Reader.Answers.{Gives, Shows, fault_in};
 ghost use Rattle.vir_soc.specs.Reader.Pieces.{closed, feeds};
+ghost use Rattle.vir_soc.specs.Limits.{profile_size_limit};
 ghost use Rattle.vir_soc.specs.Soc.{agrees, settled, soc, complete_file};
 ghost use Rattle.vir_soc.specs.Reader.Stands.{stands};
 ghost use Rattle.vir_soc.specs.Reader.Views.{reading_of, content_of};
@@ -17,18 +19,18 @@ use std::alloc::Global;
 use std::marker::Model;
 use vir_profile::SocFile;
 
-/// The most bytes that a file may have.
-pub const SIZE_LIMIT: u64 = 268_435_456;
+/// The most bytes that the file of a profile may have.
+pub const PROFILE_SIZE_LIMIT: u64 = 268_435_456;
 
 /// Takes a further piece, and gives the new size.
 fn take(alloc: Global, reader: &mut LineReader, size: u64, piece: &[u8]) -> Result<u64, SocError>
-    requires size { size ≤ SIZE_LIMIT }
+    requires size { size ≤ profile_size_limit }
     requires line { reader.old.line ≤ size + 1 }
     ensures exact { Gives fault_in (λ new. reading_of reader.new new) result
         (feeds (reading_of reader.old size) piece.now) }
-    ensures size { IfOk result (λ new. (new ≤ SIZE_LIMIT) × (reader.new.line ≤ new + 1)) }
+    ensures size { IfOk result (λ new. (new ≤ profile_size_limit) × (reader.new.line ≤ new + 1)) }
 {
-    let room = SIZE_LIMIT - size;
+    let room = PROFILE_SIZE_LIMIT - size;
     if piece.len() as u64 <= room {
         read(alloc, reader, piece)?;
         Ok(size + piece.len() as u64)
@@ -109,7 +111,7 @@ pub struct SocReader {
 impl Model for SocReader {
     ghost use Rattle.std.specs.Prelude.{◌≡◌, ◌+◌, ◌≤◌, Result, None};
     ghost use Rattle.vir_soc.specs.declared.fault.SocError.{SocError};
-    ghost use Rattle.vir_soc.specs.declared.soc_reader.TheConstants.{SIZE_LIMIT};
+    ghost use Rattle.vir_soc.specs.Limits.{profile_size_limit};
     ghost use Rattle.vir_soc.specs.Reader.Pieces.{Reading};
     ghost use Rattle.vir_soc.specs.Reader.Stands.{state_of};
 
@@ -117,7 +119,7 @@ impl Model for SocReader {
 
     ghost view = { λ a. state_of a.reader a.size a.stopped };
 
-    ghost invariant = { λ a. a.stopped ≡ None → (a.size ≤ SIZE_LIMIT) × (a.reader.line ≤ a.size + 1) };
+    ghost invariant = { λ a. a.stopped ≡ None → (a.size ≤ profile_size_limit) × (a.reader.line ≤ a.size + 1) };
 }
 
 impl SocReader {

@@ -1,3 +1,4 @@
+// A number that metadata states, with its line.
 ghost use Rattle.std.specs.Prelude.{◌≡◌, ◌≤◌, None, IfOk};
 ghost use Rattle.vir_altset.specs.Sets.{limit};
 ghost use Rattle.vir_soc.specs.Metadata.{alternatives_stated, number_stated};

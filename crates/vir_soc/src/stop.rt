@@ -1,3 +1,4 @@
+// Why a step on a line stops.
 ghost use Rattle.std.specs.Prelude.{◌≡◌};
 ghost use Rattle.vir_soc.specs.declared.stop.Stop.TheVariants.{Kind, Memory};
 

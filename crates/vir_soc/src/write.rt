@@ -1,8 +1,9 @@
+// A file, written.
 ghost use Rattle.std.specs.Prelude.{◌≡◌, ◌++◌, ◌≤◌, IfOk, OnOk, Ok, decimal, length};
 ghost use Rattle.std.specs.List.{flat_map};
 ghost use Rattle.vir_profile.specs.Profiles.{IsProfile};
 ghost use Rattle.vir_profile.specs.SocFiles.{AreNames, File};
-ghost use Rattle.vir_soc.specs.declared.soc_reader.TheConstants.{SIZE_LIMIT};
+ghost use Rattle.vir_soc.specs.Limits.{profile_size_limit};
 ghost use Rattle.vir_soc.specs.Soc.{soc};
 ghost use Rattle.vir_soc.specs.SocText.{counts_text, member_text, metadata_text, name_text, order_text, soc_text, votes_text};
 
@@ -114,7 +115,7 @@ pub fn write_soc(alloc: Global, file: &SocFile) -> Result<Vec<u8>, AllocError>
     ensures text { IfOk result (λ text. text.items ≡ soc_text file.now) }
     // It reads back as the same file, where it is as short as a file may be.
     ensures read_back { IfOk result
-        (λ text. length text.items ≤ SIZE_LIMIT → soc text.items ≡ Ok file.now) }
+        (λ text. length text.items ≤ profile_size_limit → soc text.items ≡ Ok file.now) }
 {
     let mut out = Vec::new(alloc);
     push_counts(&mut out, file.profile())?;
@@ -128,5 +129,5 @@ pub fn write_soc(alloc: Global, file: &SocFile) -> Result<Vec<u8>, AllocError>
 pub fn written_files_read_back()
     ensures { (file : File)
         → IsProfile file.profile → AreNames file.profile.alternatives file.names
-        → length (soc_text file) ≤ SIZE_LIMIT → soc (soc_text file) ≡ Ok file }
+        → length (soc_text file) ≤ profile_size_limit → soc (soc_text file) ≡ Ok file }
 {}

@@ -4,7 +4,7 @@ use Rattle.std.specs.declared.option.Option.{Option}
 use Rattle.std.specs.declared.string.String.{String}
 use Rattle.vir_outside.specs.Shelf.{Files, Lacks, TakesAtMost, told_content}
 use Rattle.vir_book.specs.declared.book.TheConstants.{RULE_FILE_LIMIT}
-use Rattle.vir_soc.specs.declared.soc_reader.TheConstants.{SIZE_LIMIT}
+use Rattle.vir_soc.specs.declared.soc_reader.TheConstants.{PROFILE_SIZE_LIMIT}
 use Rattle.virage.specs.declared.file_stop.FileStop.{FileStop}
 use Rattle.virage.specs.declared.file_stop.FileStop.TheVariants.{Fault, Refused, Memory}
 use Rattle.virage.specs.Command.{Command, count, drill, listing, report, command_of}
@@ -16,8 +16,8 @@ pub record AskedFile : Type 0 where
 
 -- the files that a command comes to, one after another, as long as none stops it
 abbrev pub files_of : Command → List AskedFile
-files_of (count rule profile) = record { name = rule; limit = RULE_FILE_LIMIT } ∷ record { name = profile; limit = SIZE_LIMIT } ∷ []
-files_of (report rule profile) = record { name = rule; limit = RULE_FILE_LIMIT } ∷ record { name = profile; limit = SIZE_LIMIT } ∷ []
+files_of (count rule profile) = record { name = rule; limit = RULE_FILE_LIMIT } ∷ record { name = profile; limit = PROFILE_SIZE_LIMIT } ∷ []
+files_of (report rule profile) = record { name = rule; limit = RULE_FILE_LIMIT } ∷ record { name = profile; limit = PROFILE_SIZE_LIMIT } ∷ []
 files_of (listing rule) = record { name = rule; limit = RULE_FILE_LIMIT } ∷ []
 files_of (drill seed lines alternatives) = []
 

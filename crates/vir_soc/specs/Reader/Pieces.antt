@@ -9,7 +9,7 @@ use Rattle.vir_soc.specs.LineKinds.{LineKind, text_kind}
 use Rattle.vir_soc.specs.Lines.{trim, without_mark}
 use Rattle.vir_soc.specs.Content.{Content}
 use Rattle.vir_soc.specs.Soc.{after_line, after_lines, complete_file}
-use Rattle.vir_soc.specs.declared.soc_reader.TheConstants.{SIZE_LIMIT}
+use Rattle.vir_soc.specs.Limits.{profile_size_limit}
 
 -- what the line of this number is; the first one may begin with a byte order mark
 abbrev pub kind_at : ℕ → List ℕ → LineKind
@@ -64,8 +64,8 @@ pub record Reading : Type 0 where
 -- a further piece, as far as a file may go
 abbrev pub feeds : Reading → List ℕ → Result Reading SocFault
 feeds r piece = do
-  p ← reads r.progress (take (SIZE_LIMIT - r.size) piece)
-  _ ← at_line p.line (refuse (nat_lt SIZE_LIMIT (r.size + length piece)) FileTooLong)
+  p ← reads r.progress (take (profile_size_limit - r.size) piece)
+  _ ← at_line p.line (refuse (nat_lt profile_size_limit (r.size + length piece)) FileTooLong)
   Ok (record { progress = p; size = r.size + length piece })
 
 -- the file, where this is its last line

@@ -1,5 +1,5 @@
 -- The answer of a step on a line beside what the format says.
-use Rattle.std.specs.Prelude.{◌≡◌, ℕ, ◌≤◌, List, Option, Some, Result, Ok, Err}
+use Rattle.std.specs.Prelude.{ℕ, ◌≤◌, List, Option, Some, Result, Ok}
 use Rattle.vir_altset.specs.Sets.{limit}
 use Rattle.vir_profile.specs.declared.refused.AddFault.{AddFault}
 use Rattle.vir_profile.specs.declared.refused.AddFault.TheVariants as faults

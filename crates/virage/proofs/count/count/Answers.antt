@@ -4,7 +4,7 @@ use Rattle.vir_book.specs.declared.book.TheConstants.{RULE_FILE_LIMIT}
 use Rattle.vir_counter.specs.contracts.boxed.BoxDynCounterCounter.TheImpl as boxed
 use Rattle.vir_outside.specs.Faults.{Rose}
 use Rattle.vir_profile.specs.SocFiles.{File}
-use Rattle.vir_soc.specs.declared.soc_reader.TheConstants.{SIZE_LIMIT}
+use Rattle.vir_soc.specs.declared.soc_reader.TheConstants.{PROFILE_SIZE_LIMIT}
 use Rattle.vir_term.specs.Tree.{Tree, tree}
 use Rattle.virage.specs.Command.{CanDeny, count}
 use Rattle.virage.specs.Fate.{Wording, command_fate, exactly, given}
@@ -22,7 +22,7 @@ wording t file = exactly (count_text t file.profile)
 pub returns-in_err-file-clause-leaves : goal.returns-in_err-file-clause-leaves
 returns-in_err-file-clause-leaves g c =
     let first : AskedFile = record { name = c.args.rule_name.now; limit = RULE_FILE_LIMIT } in
-    let last : AskedFile = record { name = c.args.profile_name.now; limit = SIZE_LIMIT } in
+    let last : AskedFile = record { name = c.args.profile_name.now; limit = PROFILE_SIZE_LIMIT } in
     let p = err_from_is_err_and c.from_residual-in_err-file.result c.from_residual-in_err-file.ensures.1 in
     rw (p.1, p.2) (leaves_profile _ _ first last _ _ (Err c.in_err-file.field-0.0) c.in_err-file.field-0.0 refl c.rule_file.ensures.files c.in_err-file.ensures.selected c.profile_file.ensures.taken)
 
@@ -47,6 +47,6 @@ returns-clause-leaves g c =
     let old = seen c.args.bench.now in
     let new = seen c.counted.new.bench in
     let first : AskedFile = record { name = c.args.rule_name.now; limit = RULE_FILE_LIMIT } in
-    let last : AskedFile = record { name = c.args.profile_name.now; limit = SIZE_LIMIT } in
+    let last : AskedFile = record { name = c.args.profile_name.now; limit = PROFILE_SIZE_LIMIT } in
     run_leaves (served_by old) (tree c.in_ok-rule.rule) c.in_ok-file.file.profile (wording (tree c.in_ok-rule.rule) c.in_ok-file.file) _ first last _ _ old new c.counted.result
     (stands_at_read _ _ last _ _ (Ok c.in_ok-file.file) c.in_ok-file.file refl c.rule_file.ensures.files c.in_ok-file.ensures.selected c.profile_file.ensures.taken) c.counted.ensures
