@@ -1,5 +1,6 @@
 -- Whether some element passes a test, and where the first one does.
-use Rattle.std.proofs.Common.{◌≡◌, ℕ, zero, suc, ◌+◌, ◌<◌, Bool, true, false, not, ◌||◌, cond, List, [], ◌∷◌, length, take, drop, refl, arith}
+use Rattle.std.proofs.Common.{◌≡◌, ℕ, zero, suc, ◌+◌, ◌<◌, Bool, true, false, not, ◌||◌, cond, List, [], ◌∷◌, length}
+use Rattle.std.proofs.Common.{take, drop, refl, arith}
 use Rattle.std.specs.Prelude.{All}
 use Rattle.std.proofs.lemmas.List.Elements.{All-nil, All-cons}
 use Rattle.std.specs.List.{list_any, position_or_len, before_first}
@@ -39,7 +40,8 @@ module _ {X : Type 0} (p : X → Bool) where
 
   pub All-none : (xs : List X) → list_any p xs ≡ false → All (λ x. p x ≡ false) xs
   All-none [] h = All-nil (λ x. p x ≡ false)
-  All-none (x ∷ xs) h = let w = or_false (p x) (list_any p xs) h in All-cons (λ x. p x ≡ false) x xs w.0 (All-none xs w.1)
+  All-none (x ∷ xs) h = let w = or_false (p x) (list_any p xs) h in All-cons (λ x. p x ≡ false) x xs w.0
+      (All-none xs w.1)
 
   -- and where it stands then
   pub position-inside : (xs : List X) → list_any p xs ≡ true → position_or_len p xs < length xs
@@ -58,7 +60,8 @@ module _ {X : Type 0} (p : X → Bool) where
         | false ↦ λ t. omega (arith, position-none xs t)
       ] h
 
-  here : (b : Bool) (x : X) (xs : List X) → p x ≡ b → list_any p (before_first p xs) ≡ false → list_any p (take (cond (not b) (1 + position_or_len p xs) 0) (x ∷ xs)) ≡ false
+  here : (b : Bool) (x : X) (xs : List X) → p x ≡ b → list_any p (before_first p xs) ≡ false
+      → list_any p (take (cond (not b) (1 + position_or_len p xs) 0) (x ∷ xs)) ≡ false
   here true x xs e h = refl
   here false x xs e h =
       let s : 1 + position_or_len p xs ≡ suc (position_or_len p xs) = omega arith in

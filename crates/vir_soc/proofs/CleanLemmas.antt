@@ -1,8 +1,10 @@
 -- Texts with no blank at their ends, and texts that are cut at their first colon.
-use Rattle.std.proofs.Common.{◌≡◌, ℕ, suc, ◌+◌, ◌-◌, ◌<◌, ◌^◌, Bool, true, false, List, [], ◌∷◌, ◌++◌, length, take, drop, get_or, decimal, ap, sym, ◌∙◌, refl, arith, append_assoc}
+use Rattle.std.proofs.Common.{◌≡◌, ℕ, suc, ◌+◌, ◌-◌, ◌<◌, ◌^◌, Bool, true, false, List, [], ◌∷◌, ◌++◌, length, take}
+use Rattle.std.proofs.Common.{drop, get_or, decimal, ap, sym, ◌∙◌, refl, arith, append_assoc}
 use Rattle.std.specs.List.{list_any, prefix_len, suffix_len, position_or_len, before_first, after_first}
 use Rattle.std.specs.Prelude.{reverse}
-use Rattle.std.proofs.lemmas.List.{take_all, take_at, drop_at, length-append, length-reverse, get_or-reverse, get_or_append_left, get_or-append-add}
+use Rattle.std.proofs.lemmas.List.{take_all, take_at, drop_at, length-append, length-reverse, get_or-reverse}
+use Rattle.std.proofs.lemmas.List.{get_or_append_left, get_or-append-add}
 use Rattle.std.proofs.lemmas.List.Folds.{list_any-append}
 use Rattle.std.proofs.lemmas.List.Sums.{prefix_len_stops, suffix_len-take_no}
 use Rattle.vir_profile.specs.SocFiles.{IsNameText, is_blank}
@@ -19,9 +21,11 @@ pub record IsClean (text : List ℕ) : Type 0 where
   pub front : is_blank (get_or text 0 0) ≡ false
   pub back : is_blank (get_or text (length text - 1) 0) ≡ false
 
-trim_back-clean : (text : List ℕ) → 0 < length text → is_blank (get_or text (length text - 1) 0) ≡ false → trim_back text ≡ text
+trim_back-clean : (text : List ℕ) → 0 < length text → is_blank (get_or text (length text - 1) 0) ≡ false
+    → trim_back text ≡ text
 trim_back-clean text h e =
-    let none : suffix_len is_blank text ≡ 0 = sym (ap (suffix_len is_blank) (take_all (length text) text (omega arith))) ∙ suffix_len-take_no is_blank text (length text) 0 h (omega arith) e in
+    let none : suffix_len is_blank text ≡ 0 = sym (ap (suffix_len is_blank) (take_all (length text) text (omega arith)))
+    ∙ suffix_len-take_no is_blank text (length text) 0 h (omega arith) e in
     ap (λ n. take (length text - n) text) none ∙ take_all (length text - 0) text (omega arith)
 
 pub trim-clean : (text : List ℕ) → IsClean text → trim text ≡ text
@@ -31,19 +35,22 @@ trim-clean (c ∷ cs) h =
     ap trim_back front ∙ trim_back-clean (c ∷ cs) h.some h.back
 
 pub trim-space : (text : List ℕ) → trim (32 ∷ text) ≡ trim text
-trim-space text = let e : 1 + prefix_len is_blank text ≡ suc (prefix_len is_blank text) = omega arith in ap (λ n. trim_back (drop n (32 ∷ text))) e
+trim-space text = let e : 1 + prefix_len is_blank text ≡ suc (prefix_len is_blank text) = omega arith
+    in ap (λ n. trim_back (drop n (32 ∷ text))) e
 
 pub trim-spaced : (text : List ℕ) → IsClean text → trim (32 ∷ text) ≡ text
 trim-spaced text h = trim-space text ∙ trim-clean text h
 
 -- the last byte of two parts
-pub last-append : (xs ys : List ℕ) → 0 < length ys → get_or (xs ++ ys) (length (xs ++ ys) - 1) 0 ≡ get_or ys (length ys - 1) 0
+pub last-append : (xs ys : List ℕ) → 0 < length ys → get_or (xs ++ ys) (length (xs ++ ys) - 1) 0
+    ≡ get_or ys (length ys - 1) 0
 last-append xs ys h =
     let e : length (xs ++ ys) - 1 ≡ length xs + (length ys - 1) = omega (arith, length-append xs ys) in
     ap (λ n. get_or (xs ++ ys) n 0) e ∙ get_or-append-add xs ys (length ys - 1) 0
 
 -- two parts, of which the first has no blank at its front and the second none at its end
-pub IsClean-append : (xs ys : List ℕ) → 0 < length xs → 0 < length ys → is_blank (get_or xs 0 0) ≡ false → is_blank (get_or ys (length ys - 1) 0) ≡ false → IsClean (xs ++ ys)
+pub IsClean-append : (xs ys : List ℕ) → 0 < length xs → 0 < length ys → is_blank (get_or xs 0 0) ≡ false
+    → is_blank (get_or ys (length ys - 1) 0) ≡ false → IsClean (xs ++ ys)
 IsClean-append xs ys first last front back =
     let l = length-append xs ys in
     record {
@@ -56,7 +63,12 @@ pub IsClean-decimal : (n : ℕ) → n < 2 ^ 64 → IsClean (decimal n)
 IsClean-decimal n h =
     let some = decimal-some n h in
     let l : length (decimal n) - 1 < length (decimal n) = omega arith in
-    record { some = some; front = digit_fails is_blank blank_fails n h 0 some; back = digit_fails is_blank blank_fails n h (length (decimal n) - 1) l }
+    record {
+      some = some;
+      front = digit_fails is_blank blank_fails n h 0 some;
+      back = digit_fails is_blank blank_fails n
+          h (length (decimal n) - 1) l;
+    }
 
 -- the text of a name
 pub IsClean-name : (text : List ℕ) → IsNameText text → IsClean text
@@ -69,14 +81,18 @@ IsClean-name text h =
     record {
       some = some;
       front = ap (λ k. is_blank (get_or text k 0)) (sym h.front) ∙ prefix_len_stops is_blank text 0 from_front;
-      back = ap is_blank (ap (λ k. get_or text k 0) (sym e) ∙ sym (get_or-reverse text 0 0 some)) ∙ ap (λ k. is_blank (get_or (reverse text) k 0)) (sym h.back) ∙ prefix_len_stops is_blank (reverse text) 0 from_back;
+      back = ap is_blank (ap (λ k. get_or text k 0) (sym e) ∙ sym (get_or-reverse text 0 0 some))
+          ∙ ap (λ k. is_blank (get_or (reverse text) k 0)) (sym h.back) ∙ prefix_len_stops is_blank (reverse text) 0
+          from_back;
     }
 
 -- ---- the first colon
 
-first_at : (p : ℕ → Bool) (xs : List ℕ) (c : ℕ) (ys : List ℕ) → list_any p xs ≡ false → p c ≡ true → position_or_len p (xs ++ c ∷ ys) ≡ length xs
+first_at : (p : ℕ → Bool) (xs : List ℕ) (c : ℕ) (ys : List ℕ) → list_any p xs ≡ false → p c ≡ true
+    → position_or_len p (xs ++ c ∷ ys) ≡ length xs
 first_at p [] c ys h e = rw e refl
-first_at p (x ∷ xs) c ys h e = let b = or_false (p x) (list_any p xs) h in rw (b.0, first_at p xs c ys b.1 e) (omega arith)
+first_at p (x ∷ xs) c ys h e = let b = or_false (p x) (list_any p xs) h in rw (b.0, first_at p xs c ys b.1 e)
+    (omega arith)
 
 -- two parts round a colon, the first without one
 module _ (xs ys : List ℕ) (h : list_any is_colon xs ≡ false) where
@@ -91,6 +107,7 @@ module _ (xs ys : List ℕ) (h : list_any is_colon xs ≡ false) where
 
   pub after_colon : after_first is_colon (xs ++ 58 ∷ ys) ≡ ys
   after_colon =
-      let n : position_or_len is_colon (xs ++ 58 ∷ ys) + 1 ≡ length (xs ++ 58 ∷ []) = let a = at_colon in omega (arith, length-append xs (58 ∷ [])) in
+      let n : position_or_len is_colon (xs ++ 58 ∷ ys) + 1 ≡ length (xs ++ 58 ∷ []) = let a = at_colon
+      in omega (arith, length-append xs (58 ∷ [])) in
       ap (λ ts. drop (position_or_len is_colon (xs ++ 58 ∷ ys) + 1) ts) (sym (append_assoc xs (58 ∷ []) ys))
       ∙ drop_at (xs ++ 58 ∷ []) ys _ (sym n)

@@ -1,5 +1,6 @@
 -- Numbers as they are written: some decimal digits.
-use Rattle.std.proofs.Common.{◌≡◌, ℕ, ◌<◌, ◌^◌, Bool, true, false, ◌&&◌, List, [], ◌∷◌, length, get_or, decimal, Some, nat_lt, refl, arith, rules}
+use Rattle.std.proofs.Common.{◌≡◌, ℕ, ◌<◌, ◌^◌, Bool, true, false, ◌&&◌, List, [], ◌∷◌, length, get_or, decimal, Some}
+use Rattle.std.proofs.Common.{nat_lt, refl, arith, rules}
 use Rattle.std.specs.List.{list_any, list_all}
 use Rattle.std.specs.Char.{is_ascii_digit}
 use Rattle.std.specs.Str.Parse.{digits_value}
@@ -56,11 +57,13 @@ line_feed_fails c h = grind (arith, nat_tests)
 
 none_passes : (p : ℕ → Bool) → FailsDigits p → (ds : List ℕ) → AreDigits ds → list_any p ds ≡ false
 none_passes p f [] h = refl
-none_passes p f (c ∷ cs) h = let b = both_true (is_ascii_digit c) (list_all is_ascii_digit cs) h in rw (f c b.0) (none_passes p f cs b.1)
+none_passes p f (c ∷ cs) h = let b = both_true (is_ascii_digit c) (list_all is_ascii_digit cs) h
+    in rw (f c b.0) (none_passes p f cs b.1)
 
 -- nothing that is written of a number passes the test
 pub list_any-decimal : (p : ℕ → Bool) → FailsDigits p → (n : ℕ) → n < 2 ^ 64 → list_any p (decimal n) ≡ false
 list_any-decimal p f n h = none_passes p f (decimal n) (digits_decimal numerals n h)
 
-pub digit_fails : (p : ℕ → Bool) → FailsDigits p → (n : ℕ) → n < 2 ^ 64 → (k : ℕ) → k < length (decimal n) → p (get_or (decimal n) k 0) ≡ false
+pub digit_fails : (p : ℕ → Bool) → FailsDigits p → (n : ℕ) → n < 2 ^ 64 → (k : ℕ) → k < length (decimal n)
+    → p (get_or (decimal n) k 0) ≡ false
 digit_fails p f n h k b = All-none p (decimal n) (list_any-decimal p f n h) k 0 b

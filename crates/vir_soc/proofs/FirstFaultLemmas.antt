@@ -1,5 +1,6 @@
 -- The line of a fault is the first that has one.
-use Rattle.std.proofs.Common.{◌≡◌, ℕ, suc, ◌+◌, ◌-◌, ◌<◌, ◌≤◌, List, [], ◌∷◌, ◌++◌, length, Option, Some, None, Result, Ok, Err, refl, ap, sym, ◌∙◌, arith}
+use Rattle.std.proofs.Common.{◌≡◌, ℕ, suc, ◌+◌, ◌-◌, ◌<◌, ◌≤◌, List, [], ◌∷◌, ◌++◌, length, Option, Some, None, Result}
+use Rattle.std.proofs.Common.{Ok, Err, refl, ap, sym, ◌∙◌, arith}
 use Rattle.std.specs.Prelude.{count_by}
 use Rattle.std.proofs.lemmas.Bool.{le-leb}
 use Rattle.std.proofs.lemmas.List.{length-take-le}
@@ -24,17 +25,21 @@ line_is n (Err k) f h =
     ap (λ (g : SocFault). g.line) (sym e)
 
 -- a fault of some lines stands at one of them
-pub fault_within : (content : Content) (n : ℕ) (kinds : List LineKind) (f : SocFault) → after_lines content n kinds ≡ Err f → (n ≤ f.line) × (f.line < n + length kinds)
+pub fault_within : (content : Content) (n : ℕ) (kinds : List LineKind) (f : SocFault) → after_lines content n kinds
+    ≡ Err f → (n ≤ f.line) × (f.line < n + length kinds)
 unfolding after_lines
 fault_within content n [] f h = absurd cc
-fault_within content n (kind ∷ kinds) f h = of (at_line n (after_line content n kind)) (λ g e. line_is n (after_line content n kind) g e) (λ s e. fault_within s (n + 1) kinds f e) h where
-  of : (r : Result Content SocFault) → ((g : SocFault) → r ≡ Err g → g.line ≡ n) → ((s : Content) → after_lines s (n + 1) kinds ≡ Err f → (n + 1 ≤ f.line) × (f.line < n + 1 + length kinds)) → (r >>= λ s. after_lines s (n + 1) kinds) ≡ Err f → (n ≤ f.line) × (f.line < n + suc (length kinds))
-  of (Ok s) here later e =
-      let q = later s e in
-      let l = q.0 in
-      let u = q.1 in
-      (omega arith, omega arith)
-  of (Err g) here later e = let l = here f e in (omega arith, omega arith)
+fault_within content n (kind ∷ kinds) f h = of (at_line n (after_line content n kind))
+    (λ g e. line_is n (after_line content n kind) g e) (λ s e. fault_within s (n + 1) kinds f e) h where
+      of : (r : Result Content SocFault) → ((g : SocFault) → r ≡ Err g → g.line ≡ n)
+          → ((s : Content) → after_lines s (n + 1) kinds ≡ Err f → (n + 1 ≤ f.line) × (f.line < n + 1 + length kinds))
+          → (r >>= λ s. after_lines s (n + 1) kinds) ≡ Err f → (n ≤ f.line) × (f.line < n + suc (length kinds))
+      of (Ok s) here later e =
+          let q = later s e in
+          let l = q.0 in
+          let u = q.1 in
+          (omega arith, omega arith)
+      of (Err g) here later e = let l = here f e in (omega arith, omega arith)
 
 length-kinds_of : (texts : List (List ℕ)) → length (kinds_of texts) ≡ length texts
 length-kinds_of texts = ap length (sym (kinds_from-first texts)) ∙ length-kinds_from 1 texts
@@ -50,7 +55,8 @@ was_err (Ok s) f h = absurd cc
 was_err (Err g) f h = cc
 
 -- a fault that the bytes settle stands at a line that they end
-settled_line : (bytes : List ℕ) (f : SocFault) → length bytes ≤ profile_size_limit → settled bytes ≡ Some f → f.line ≤ count_by is_line_feed bytes
+settled_line : (bytes : List ℕ) (f : SocFault) → length bytes ≤ profile_size_limit → settled bytes ≡ Some f
+    → f.line ≤ count_by is_line_feed bytes
 settled_line bytes f fits h =
     let t = le-leb (length bytes) profile_size_limit fits in
     let e : ended_content bytes ≡ Err f = was_err (ended_content bytes) f (rw t at h) in
@@ -60,7 +66,8 @@ settled_line bytes f fits h =
     let m = length-ended_lines bytes in
     omega arith
 
-pub lines_before_are_fine : (front back : List ℕ) (f : SocFault) → soc (front ++ back) ≡ Err f → length front ≤ profile_size_limit → count_by is_line_feed front < f.line → settled front ≡ None
+pub lines_before_are_fine : (front back : List ℕ) (f : SocFault) → soc (front ++ back) ≡ Err f
+    → length front ≤ profile_size_limit → count_by is_line_feed front < f.line → settled front ≡ None
 lines_before_are_fine front back f h fits before = of (settled front) refl where
   of : (o : Option SocFault) → settled front ≡ o → o ≡ None
   of None e = refl

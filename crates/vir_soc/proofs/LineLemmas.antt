@@ -1,5 +1,6 @@
 -- Bytes that are cut into lines.
-use Rattle.std.proofs.Common.{◌≡◌, ℕ, suc, ◌+◌, ◌<◌, ◌≤◌, true, false, cond, List, [], ◌∷◌, ◌++◌, length, get_or, map, nat_eq, Result, Ok, Err, ap, sym, ◌∙◌, refl, arith, append_assoc, append-nil, add-zero}
+use Rattle.std.proofs.Common.{◌≡◌, ℕ, suc, ◌+◌, ◌<◌, ◌≤◌, true, false, cond, List, [], ◌∷◌, ◌++◌, length, get_or, map}
+use Rattle.std.proofs.Common.{nat_eq, Result, Ok, Err, ap, sym, ◌∙◌, refl, arith, append_assoc, append-nil, add-zero}
 use Rattle.std.specs.List.{position_or_len, before_first, after_first}
 use Rattle.std.proofs.lemmas.Bool.Decides.{nat_tests}
 use Rattle.std.proofs.lemmas.List.{get_or-take, length-take-le, length-append}
@@ -18,7 +19,9 @@ pub ended_append : (begun xs ys : List ℕ) → ended begun (xs ++ ys) ≡ ended
 unfolding ended unended
 ended_append begun [] ys = refl
 ended_append begun (c ∷ cs) ys =
-    elim (is_line_feed c) as (λ b. cond b (begun ∷ ended [] (cs ++ ys)) (ended (begun ++ c ∷ []) (cs ++ ys)) ≡ cond b (begun ∷ ended [] cs) (ended (begun ++ c ∷ []) cs) ++ ended (cond b (unended [] cs) (unended (begun ++ c ∷ []) cs)) ys) [
+    elim (is_line_feed c) as (λ b. cond b (begun ∷ ended [] (cs ++ ys)) (ended (begun ++ c ∷ []) (cs ++ ys))
+    ≡ cond b (begun ∷ ended [] cs) (ended (begun ++ c ∷ []) cs)
+    ++ ended (cond b (unended [] cs) (unended (begun ++ c ∷ []) cs)) ys) [
       | true ↦ ap (λ ls. begun ∷ ls) (ended_append [] cs ys)
       | false ↦ ended_append (begun ++ c ∷ []) cs ys
     ]
@@ -27,7 +30,8 @@ pub unended_append : (begun xs ys : List ℕ) → unended begun (xs ++ ys) ≡ u
 unfolding unended
 unended_append begun [] ys = refl
 unended_append begun (c ∷ cs) ys =
-    elim (is_line_feed c) as (λ b. cond b (unended [] (cs ++ ys)) (unended (begun ++ c ∷ []) (cs ++ ys)) ≡ unended (cond b (unended [] cs) (unended (begun ++ c ∷ []) cs)) ys) [
+    elim (is_line_feed c) as (λ b. cond b (unended [] (cs ++ ys)) (unended (begun ++ c ∷ []) (cs ++ ys))
+    ≡ unended (cond b (unended [] cs) (unended (begun ++ c ∷ []) cs)) ys) [
       | true ↦ unended_append [] cs ys
       | false ↦ unended_append (begun ++ c ∷ []) cs ys
     ]
@@ -39,14 +43,17 @@ pub record HasNoEnd (xs : List ℕ) : Type 0 where
 pub ended_none : (begun xs : List ℕ) → HasNoEnd xs → ended begun xs ≡ []
 unfolding ended
 ended_none begun [] h = refl
-ended_none begun (c ∷ cs) h = rw (h.at 0 (omega arith)) (ended_none (begun ++ c ∷ []) cs (record { at = λ k l. h.at (suc k) (omega arith) }))
+ended_none begun (c ∷ cs) h = rw (h.at 0 (omega arith))
+    (ended_none (begun ++ c ∷ []) cs (record { at = λ k l. h.at (suc k) (omega arith) }))
 
 pub unended_none : (begun xs : List ℕ) → HasNoEnd xs → unended begun xs ≡ begun ++ xs
 unfolding unended
 unended_none begun [] h = sym (append-nil begun)
-unended_none begun (c ∷ cs) h = rw (h.at 0 (omega arith)) (unended_none (begun ++ c ∷ []) cs (record { at = λ k l. h.at (suc k) (omega arith) }) ∙ append_assoc begun (c ∷ []) cs)
+unended_none begun (c ∷ cs) h = rw (h.at 0 (omega arith)) (unended_none (begun ++ c ∷ []) cs
+    (record { at = λ k l. h.at (suc k) (omega arith) }) ∙ append_assoc begun (c ∷ []) cs)
 
-pub ended_at : (begun : List ℕ) (c : ℕ) (ys : List ℕ) → is_line_feed c ≡ true → ended begun (c ∷ ys) ≡ begun ∷ ended [] ys
+pub ended_at : (begun : List ℕ) (c : ℕ) (ys : List ℕ) → is_line_feed c ≡ true → ended begun (c ∷ ys) ≡ begun
+    ∷ ended [] ys
 unfolding ended
 ended_at begun c ys e = rw e refl
 
@@ -59,18 +66,21 @@ module _ (rest : List ℕ) where
   before_has_none h = record {
     at = λ k l.
         let n = length-take-le (position_or_len is_line_feed rest) rest h in
-        ap is_line_feed (get_or-take (position_or_len is_line_feed rest) rest k 0 (omega arith)) ∙ fails_before_first is_line_feed rest k 0 (omega arith);
+        ap is_line_feed (get_or-take (position_or_len is_line_feed rest) rest k 0 (omega arith))
+        ∙ fails_before_first is_line_feed rest k 0 (omega arith);
   }
 
   module _ (h : position_or_len is_line_feed rest < length rest) (begun : List ℕ) where
-    pub ended_first : ended begun rest ≡ (begun ++ before_first is_line_feed rest) ∷ ended [] (after_first is_line_feed rest)
+    pub ended_first : ended begun rest ≡ (begun ++ before_first is_line_feed rest)
+        ∷ ended [] (after_first is_line_feed rest)
     ended_first =
         let before = before_first is_line_feed rest in
         let c = get_or rest (position_or_len is_line_feed rest) 0 in
         let none = before_has_none (omega arith) in
         ap (ended begun) (split_at_first is_line_feed rest 0 h)
         ∙ ended_append begun before (c ∷ after_first is_line_feed rest)
-        ∙ rw (ended_none begun before none, unended_none begun before none) (ended_at (begun ++ before) c (after_first is_line_feed rest) (passes_at_first is_line_feed rest 0 h))
+        ∙ rw (ended_none begun before none, unended_none begun before none)
+        (ended_at (begun ++ before) c (after_first is_line_feed rest) (passes_at_first is_line_feed rest 0 h))
 
     pub unended_first : unended begun rest ≡ unended [] (after_first is_line_feed rest)
     unended_first =
@@ -96,9 +106,11 @@ later_kinds n (text ∷ texts) h =
 pub kinds_from-first : (texts : List (List ℕ)) → kinds_from 1 texts ≡ kinds_of texts
 unfolding kinds_from
 kinds_from-first [] = refl
-kinds_from-first (text ∷ texts) = ap (λ ks. text_kind (trim (without_mark text)) ∷ ks) (later_kinds 2 texts (omega arith))
+kinds_from-first (text ∷ texts) = ap (λ ks. text_kind (trim (without_mark text)) ∷ ks)
+    (later_kinds 2 texts (omega arith))
 
-kinds_from_append : (n : ℕ) (xs ys : List (List ℕ)) → kinds_from n (xs ++ ys) ≡ kinds_from n xs ++ kinds_from (n + length xs) ys
+kinds_from_append : (n : ℕ) (xs ys : List (List ℕ)) → kinds_from n (xs ++ ys) ≡ kinds_from n xs
+    ++ kinds_from (n + length xs) ys
 unfolding kinds_from
 kinds_from_append n [] ys = ap (λ k. kinds_from k ys) (sym (add-zero n))
 kinds_from_append n (x ∷ xs) ys =
@@ -110,42 +122,59 @@ unfolding kinds_from
 length-kinds_from n [] = refl
 length-kinds_from n (x ∷ xs) = ap suc (length-kinds_from (n + 1) xs)
 
-pub after_lines_append : (s : Content) (n : ℕ) (xs ys : List LineKind) → after_lines s n (xs ++ ys) ≡ (after_lines s n xs >>= λ t. after_lines t (n + length xs) ys)
+pub after_lines_append : (s : Content) (n : ℕ) (xs ys : List LineKind) → after_lines s n (xs ++ ys)
+    ≡ (after_lines s n xs >>= λ t. after_lines t (n + length xs) ys)
 unfolding after_lines
 after_lines_append s n [] ys = ap (λ k. after_lines s k ys) (sym (add-zero n))
 after_lines_append s n (x ∷ xs) ys =
     let e : n + 1 + length xs ≡ n + suc (length xs) = omega arith in
-    elim (at_line n (after_line s n x)) as (λ r. (r >>= λ u. after_lines u (n + 1) (xs ++ ys)) ≡ ((r >>= λ u. after_lines u (n + 1) xs) >>= λ t. after_lines t (n + suc (length xs)) ys)) [
+    elim (at_line n (after_line s n x)) as (λ r. (r >>= λ u. after_lines u (n + 1) (xs ++ ys))
+    ≡ ((r >>= λ u. after_lines u (n + 1) xs) >>= λ t. after_lines t (n + suc (length xs)) ys)) [
       | Ok u ↦ after_lines_append u (n + 1) xs ys ∙ ap (λ k. after_lines u (n + 1) xs >>= λ t. after_lines t k ys) e
       | Err f ↦ refl
     ]
 
-pub after_texts_append : (s : Content) (n : ℕ) (xs ys : List (List ℕ)) → after_texts s n (xs ++ ys) ≡ (after_texts s n xs >>= λ t. after_texts t (n + length xs) ys)
+pub after_texts_append : (s : Content) (n : ℕ) (xs ys : List (List ℕ)) → after_texts s n (xs ++ ys)
+    ≡ (after_texts s n xs >>= λ t. after_texts t (n + length xs) ys)
 after_texts_append s n xs ys =
     ap (after_lines s n) (kinds_from_append n xs ys)
     ∙ after_lines_append s n (kinds_from n xs) (kinds_from (n + length xs) ys)
-    ∙ ap (λ k. after_texts s n xs >>= λ t. after_lines t (n + k) (kinds_from (n + length xs) ys)) (length-kinds_from n xs)
+    ∙ ap (λ k. after_texts s n xs >>= λ t. after_lines t (n + k) (kinds_from (n + length xs) ys))
+    (length-kinds_from n xs)
 
 -- ---- pieces
 
 abbrev put : ℕ → List ℕ → Content → Result Progress SocFault
 put line begun content = Ok (record { content = content; line = line; begun = begun })
 
-then_lines : (r : Result Content SocFault) (line : ℕ) (rest : List ℕ) → ((r >>= λ s. after_texts s (line + 1) (ended [] rest)) >>= put (line + suc (length (ended [] rest))) (unended [] rest)) ≡ ((r >>= put (line + 1) []) >>= λ (q : Progress). reads q rest)
+then_lines : (r : Result Content SocFault) (line : ℕ) (rest : List ℕ)
+    → ((r >>= λ s. after_texts s (line + 1) (ended [] rest)) >>= put (line + suc (length (ended [] rest)))
+    (unended [] rest)) ≡ ((r >>= put (line + 1) []) >>= λ (q : Progress). reads q rest)
 then_lines (Err f) line rest = refl
-then_lines (Ok s) line rest = let e : line + suc (length (ended [] rest)) ≡ line + 1 + length (ended [] rest) = omega arith in ap (λ n. after_texts s (line + 1) (ended [] rest) >>= put n (unended [] rest)) e
+then_lines (Ok s) line rest = let e : line + suc (length (ended [] rest)) ≡ line + 1 + length (ended [] rest) =
+    omega arith in ap (λ n. after_texts s (line + 1) (ended [] rest) >>= put n (unended [] rest)) e
 
 -- a line that ends in these bytes, and the bytes behind it
-pub reads_end : (p : Progress) (rest : List ℕ) → position_or_len is_line_feed rest < length rest → reads p rest ≡ (end_line p (before_first is_line_feed rest) >>= λ q. reads q (after_first is_line_feed rest))
+pub reads_end : (p : Progress) (rest : List ℕ) → position_or_len is_line_feed rest < length rest → reads p rest
+    ≡ (end_line p (before_first is_line_feed rest) >>= λ q. reads q (after_first is_line_feed rest))
 unfolding after_lines after_text kinds_from
-reads_end p rest h = rw (ended_first rest h p.begun, unended_first rest h p.begun) (then_lines (at_line p.line (after_text p.content p.line (p.begun ++ before_first is_line_feed rest))) p.line (after_first is_line_feed rest))
+reads_end p rest h = rw (ended_first rest h p.begun, unended_first rest h p.begun)
+    (then_lines (at_line p.line (after_text p.content p.line (p.begun ++ before_first is_line_feed rest))) p.line
+    (after_first is_line_feed rest))
 
 -- bytes that end no line
-pub reads_none : (p : Progress) (rest : List ℕ) → position_or_len is_line_feed rest ≡ length rest → reads p rest ≡ Ok (record { content = p.content; line = p.line; begun = p.begun ++ rest })
+pub reads_none : (p : Progress) (rest : List ℕ) → position_or_len is_line_feed rest ≡ length rest → reads p rest
+    ≡ Ok (record { content = p.content; line = p.line; begun = p.begun ++ rest })
 unfolding after_lines after_text kinds_from
-reads_none p rest e = rw (ended_none p.begun rest (rest_has_none rest e), unended_none p.begun rest (rest_has_none rest e)) (ap (λ n. put n (p.begun ++ rest) p.content) (add-zero p.line))
+reads_none p rest e = rw (
+  ended_none p.begun rest (rest_has_none rest e),
+  unended_none p.begun rest
+      (rest_has_none rest e),
+) (ap (λ n. put n (p.begun ++ rest) p.content) (add-zero p.line))
 
-join : (r : Result Content SocFault) (n : ℕ) (begun bytes : List ℕ) → ((r >>= λ t. after_texts t n (ended begun bytes)) >>= put (n + length (ended begun bytes)) (unended begun bytes)) ≡ ((r >>= put n begun) >>= λ (q : Progress). reads q bytes)
+join : (r : Result Content SocFault) (n : ℕ) (begun bytes : List ℕ) → ((r >>= λ t. after_texts t n (ended begun bytes))
+    >>= put (n + length (ended begun bytes)) (unended begun bytes)) ≡ ((r >>= put n begun) >>= λ (q : Progress).
+    reads q bytes)
 join (Ok s) n begun bytes = refl
 join (Err f) n begun bytes = refl
 
@@ -155,8 +184,10 @@ reads_append p xs ys =
     let first = ended p.begun xs in
     let begun = unended p.begun xs in
     let later = ended begun ys in
-    let n : p.line + length (first ++ later) ≡ p.line + length first + length later = omega (arith, length-append first later) in
-    rw (ended_append p.begun xs ys, unended_append p.begun xs ys, n, after_texts_append p.content p.line first later) (join (after_texts p.content p.line first) (p.line + length first) begun ys)
+    let n : p.line + length (first ++ later) ≡ p.line + length first + length later =
+    omega (arith, length-append first later) in
+    rw (ended_append p.begun xs ys, unended_append p.begun xs ys, n, after_texts_append p.content p.line first later)
+    (join (after_texts p.content p.line first) (p.line + length first) begun ys)
 
 pub reads_nothing : (p : Progress) → reads p [] ≡ Ok p
 reads_nothing p = reads_none p [] refl ∙ ap (λ b. put p.line b p.content) (append-nil p.begun)

@@ -1,5 +1,6 @@
 -- A fault of a line is settled as soon as that line is ended.
-use Rattle.std.proofs.Common.{◌≡◌, ◌≢◌, ℕ, ◌+◌, ◌-◌, ◌≤◌, Bool, true, false, not, List, [], ◌++◌, length, take, Option, Some, None, Result, Ok, Err, nat_eq, nat_lt, refl, ap, sym, ◌∙◌, arith, inl, inr}
+use Rattle.std.proofs.Common.{◌≡◌, ◌≢◌, ℕ, ◌+◌, ◌-◌, ◌≤◌, Bool, true, false, not, List, [], ◌++◌, length, take, Option}
+use Rattle.std.proofs.Common.{Some, None, Result, Ok, Err, nat_eq, nat_lt, refl, ap, sym, ◌∙◌, arith, inl, inr}
 use Rattle.std.specs.Prelude.{◌⊎◌, count_by}
 use Rattle.std.specs.Option.{ok_or}
 use Rattle.std.proofs.lemmas.List.{length-append}
@@ -13,7 +14,8 @@ use Rattle.vir_soc.specs.declared.stated.Stated.{Stated}
 use Rattle.vir_soc.specs.Checks.{◌>>=◌, at_line, fault_of, refuse}
 use Rattle.vir_soc.specs.Lines.{last_line, lines}
 use Rattle.vir_soc.specs.Names.{names_up_to}
-use Rattle.vir_soc.specs.Reader.Pieces.{Progress, Reading, after_text, after_texts, closed, ended, feeds, kinds_from, reads, unended}
+use Rattle.vir_soc.specs.Reader.Pieces.{Progress, Reading, after_text, after_texts, closed, ended, feeds, kinds_from}
+use Rattle.vir_soc.specs.Reader.Pieces.{reads, unended}
 use Rattle.vir_soc.specs.Content.{Content}
 use Rattle.vir_soc.specs.Soc.{agrees, settled, settled_content, soc, complete_file}
 use Rattle.vir_soc.specs.Limits.{profile_size_limit}
@@ -42,7 +44,8 @@ IsLate n f = (n ≤ f.line) ⊎ ((f.kind ≡ kinds.VotersDiffer) ⊎ (f.kind ≡
 here : {A : Type 0} (n : ℕ) (r : Result A SocKind) (f : SocFault) → at_line n r ≡ Err f → IsLate n f
 here n r f h = let e = line_is n r f h in inl (omega arith)
 
-kind_is : (stated : Option Stated) (n : ℕ) (kind : SocKind) (f : SocFault) → agrees stated n kind ≡ Err f → f.kind ≡ kind
+kind_is : (stated : Option Stated) (n : ℕ) (kind : SocKind) (f : SocFault) → agrees stated n kind ≡ Err f → f.kind
+    ≡ kind
 kind_is None n kind f h = absurd cc
 kind_is (Some stated) n kind f h = of (nat_eq stated.value n) h where
   of : (b : Bool) → at_line stated.line (refuse (not b) kind) ≡ Err f → f.kind ≡ kind
@@ -55,21 +58,31 @@ kind_is (Some stated) n kind f h = of (nat_eq stated.value n) h where
 complete_file_late : (content : Content) (last : ℕ) (f : SocFault) → complete_file content last ≡ Err f → IsLate last f
 unfolding complete_file
 complete_file_late content last f h =
-    let put : ℕ → Result File SocFault = λ m. Ok (record { profile = record { alternatives = m; lines = content.votes }; names = names_up_to m content.names }) in
-    let orders : ℕ → Result File SocFault = λ m. agrees content.orders (length content.votes) kinds.OrdersDiffer >>= λ _. put m in
-    let voters : ℕ → Result File SocFault = λ m. agrees content.voters (total_weight content.votes) kinds.VotersDiffer >>= λ _. orders m in
+    let put : ℕ → Result File SocFault = λ m.
+    Ok (record {
+      profile = record { alternatives = m; lines = content.votes };
+      names = names_up_to m content.names;
+    }) in
+    let orders : ℕ → Result File SocFault = λ m. agrees content.orders (length content.votes) kinds.OrdersDiffer
+    >>= λ _. put m in
+    let voters : ℕ → Result File SocFault = λ m. agrees content.voters (total_weight content.votes) kinds.VotersDiffer
+    >>= λ _. orders m in
     elim (stopped (at_line last (ok_or content.alternatives kinds.NoAlternativeCount)) voters f h) [
       | first e ↦ here last (ok_or content.alternatives kinds.NoAlternativeCount) f e
-      | later m _ g ↦ elim (stopped (agrees content.voters (total_weight content.votes) kinds.VotersDiffer) (λ _. orders m) f g) [
-        | first e ↦ inr (inl (kind_is content.voters (total_weight content.votes) kinds.VotersDiffer f e))
-        | later _ _ k ↦ elim (stopped (agrees content.orders (length content.votes) kinds.OrdersDiffer) (λ _. put m) f k) [
-          | first e ↦ inr (inr (kind_is content.orders (length content.votes) kinds.OrdersDiffer f e))
-          | later _ _ l ↦ absurd cc
-        ]
-      ]
+      | later m _ g ↦ elim (stopped (agrees content.voters (total_weight content.votes) kinds.VotersDiffer)
+          (λ _. orders m) f g) [
+            | first e ↦ inr (inl (kind_is content.voters (total_weight content.votes) kinds.VotersDiffer f e))
+            | later _ _ k ↦ elim (stopped (agrees content.orders (length content.votes) kinds.OrdersDiffer) (λ _. put m)
+                f
+                k) [
+                  | first e ↦ inr (inr (kind_is content.orders (length content.votes) kinds.OrdersDiffer f e))
+                  | later _ _ l ↦ absurd cc
+                ]
+          ]
     ]
 
-closed_late : (content : Content) (last : ℕ) (text : List ℕ) (f : SocFault) → closed content last text ≡ Err f → IsLate last f
+closed_late : (content : Content) (last : ℕ) (text : List ℕ) (f : SocFault) → closed content last text ≡ Err f
+    → IsLate last f
 closed_late content last text f h =
     elim (stopped (at_line last (after_text content last text)) (λ s. complete_file s last) f h) [
       | first e ↦ here last (after_text content last text) f e
@@ -79,7 +92,8 @@ closed_late content last text f h =
 -- ---- further bytes
 
 abbrev gone_on : Progress → List ℕ → Content → Result Progress SocFault
-gone_on p bytes content = Ok (record { content = content; line = p.line + length (ended p.begun bytes); begun = unended p.begun bytes })
+gone_on p bytes content =
+    Ok (record { content = content; line = p.line + length (ended p.begun bytes); begun = unended p.begun bytes })
 
 reads_late : (p : Progress) (bytes : List ℕ) (f : SocFault) → reads p bytes ≡ Err f → p.line ≤ f.line
 reads_late p bytes f h =
@@ -92,7 +106,11 @@ reads_on : (p q : Progress) (bytes : List ℕ) → reads p bytes ≡ Ok q → p.
 reads_on p q bytes h = of (after_texts p.content p.line (ended p.begun bytes)) h where
   of : (r : Result Content SocFault) → (r >>= gone_on p bytes) ≡ Ok q → p.line ≤ q.line
   of (Ok s) e =
-      let next : Progress = record { content = s; line = p.line + length (ended p.begun bytes); begun = unended p.begun bytes } in
+      let next : Progress = record {
+        content = s;
+        line = p.line + length (ended p.begun bytes);
+        begun = unended p.begun bytes;
+      } in
       let is : next ≡ q = cc in
       let l = ap (λ (z : Progress). z.line) is in
       omega arith
@@ -125,17 +143,24 @@ more_lines front back =
     omega arith
 
 -- where the bytes in front settle no fault, that of the file stands behind their lines
-behind : (front back : List ℕ) (f : SocFault) → settled front ≡ None → soc (front ++ back) ≡ Err f → IsLate (length (lines front)) f
+behind : (front back : List ℕ) (f : SocFault) → settled front ≡ None → soc (front ++ back) ≡ Err f
+    → IsLate (length (lines front)) f
 behind front back f none h =
     let all = front ++ back in
-    elim (stopped (settled_content all) (λ content. closed content (length (lines all)) (last_line all)) f (sym (soc_is all) ∙ h)) [
+    elim (stopped (settled_content all) (λ content. closed content (length (lines all)) (last_line all)) f
+    (sym (soc_is all) ∙ h)) [
       | first e ↦ inl (by_pieces (settled_content front) none refl e)
       | later content _ g ↦ later_still (closed_late content (length (lines all)) (last_line all) f g)
     ] where
-      by_pieces : (r : Result Content SocFault) → fault_of r ≡ None → settled_content front ≡ r → settled_content (front ++ back) ≡ Err f → length (lines front) ≤ f.line
+      by_pieces : (r : Result Content SocFault) → fault_of r ≡ None → settled_content front ≡ r
+          → settled_content (front ++ back) ≡ Err f → length (lines front) ≤ f.line
       by_pieces (Err g) n s e = absurd cc
       by_pieces (Ok content) n s e =
-          let r : Reading = record { progress = record { content = content; line = length (lines front); begun = last_line front }; size = length front } in
+          let r : Reading =
+          record {
+            progress = record { content = content; line = length (lines front); begun = last_line front };
+            size = length front;
+          } in
           let at : standing front ≡ Ok r = rw s refl in
           let failed : standing (front ++ back) ≡ Err f = rw e refl in
           feeds_late r back f (sym (standing_append front back ∙ ap (λ x. x >>= λ q. feeds q back) at) ∙ failed)
@@ -144,7 +169,9 @@ behind front back f none h =
       later_still (inl l) = let m = more_lines front back in inl (omega arith)
       later_still (inr k) = inr k
 
-pub settled_with_its_line : (front back : List ℕ) (f : SocFault) → soc (front ++ back) ≡ Err f → f.line ≤ count_by is_line_feed front → f.kind ≢ kinds.VotersDiffer → f.kind ≢ kinds.OrdersDiffer → settled front ≡ Some f
+pub settled_with_its_line : (front back : List ℕ) (f : SocFault) → soc (front ++ back) ≡ Err f
+    → f.line ≤ count_by is_line_feed front → f.kind ≢ kinds.VotersDiffer → f.kind ≢ kinds.OrdersDiffer → settled front
+    ≡ Some f
 settled_with_its_line front back f h ended no_voters no_orders = of (settled front) refl where
   of : (o : Option SocFault) → settled front ≡ o → o ≡ Some f
   of None e = elim (behind front back f e h) [

@@ -13,7 +13,8 @@ module _ (p : ℕ → Bool) (xs : List ℕ) where
   before_first-none h = let e = position-none p xs h in take_all (position_or_len p xs) xs (omega arith)
 
   last_of : length xs ≤ position_or_len p xs → slice_split p xs ≡ before_first p xs ∷ []
-  last_of e = slice_split_none p xs (λ k d h. fails_before_first p xs k d (omega arith)) ∙ ap (λ ys. ys ∷ []) (sym (take_all (position_or_len p xs) xs e))
+  last_of e = slice_split_none p xs (λ k d h. fails_before_first p xs k d (omega arith))
+      ∙ ap (λ ys. ys ∷ []) (sym (take_all (position_or_len p xs) xs e))
 
   -- it is the one part
   pub split_last : list_any p xs ≡ false → slice_split p xs ≡ before_first p xs ∷ []

@@ -1,10 +1,12 @@
 -- Text without blanks at its ends.
-use Rattle.std.proofs.Common.{◌≡◌, ℕ, zero, suc, ◌+◌, ◌-◌, ◌<◌, Bool, true, false, cond, List, [], ◌∷◌, length, take, drop, get_or, refl, ap, sym, ◌∙◌, arith, inl, inr}
+use Rattle.std.proofs.Common.{◌≡◌, ℕ, zero, suc, ◌+◌, ◌-◌, ◌<◌, Bool, true, false, cond, List, [], ◌∷◌, length, take}
+use Rattle.std.proofs.Common.{drop, get_or, refl, ap, sym, ◌∙◌, arith, inl, inr}
 use Rattle.std.specs.Prelude.{reverse}
 use Rattle.std.specs.List.{list_any, prefix_len, suffix_len}
 use Rattle.std.proofs.lemmas.Bool.{cases_lt}
 use Rattle.std.proofs.lemmas.List.{get_or-reverse, length-reverse, length-take-le}
-use Rattle.std.proofs.lemmas.List.Sums.{prefix_len_stops, prefix_len-drop_all, prefix_len-drop_no, suffix_len-take_no, suffix_len-le-length}
+use Rattle.std.proofs.lemmas.List.Sums.{prefix_len_stops, prefix_len-drop_all, prefix_len-drop_no, suffix_len-take_no}
+use Rattle.std.proofs.lemmas.List.Sums.{suffix_len-le-length}
 use Rattle.vir_profile.specs.SocFiles.{IsNameText, is_blank, is_line_feed}
 use Rattle.vir_soc.specs.Lines.{trim, trim_front}
 use Rattle.vir_soc.proofs.AnyLemmas.{list_any-drop, list_any-take}
@@ -34,21 +36,28 @@ module _ (p : ℕ → Bool) where
       ap p (ap (λ j. get_or xs j 0) (sym e) ∙ sym (get_or-reverse xs k 0 h)) ∙ prefix_len_stops p (reverse xs) 0 inside
 
   -- nothing that passes is left at the end
-  back_fails : (xs : List ℕ) → 0 < length (take (length xs - suffix_len p xs) xs) → suffix_len p (take (length xs - suffix_len p xs) xs) ≡ 0
+  back_fails : (xs : List ℕ) → 0 < length (take (length xs - suffix_len p xs) xs)
+      → suffix_len p (take (length xs - suffix_len p xs) xs) ≡ 0
   back_fails xs h =
       let most = suffix_len-le-length p xs in
-      let len : length (take (length xs - suffix_len p xs) xs) ≡ length xs - suffix_len p xs = length-take-le (length xs - suffix_len p xs) xs (omega arith) in
-      suffix_len-take_no p xs (length xs - suffix_len p xs) 0 (omega arith) (omega arith) (stops_before xs (omega arith))
+      let len : length (take (length xs - suffix_len p xs) xs) ≡ length xs - suffix_len p xs =
+      length-take-le (length xs - suffix_len p xs) xs (omega arith) in
+      suffix_len-take_no p xs (length xs - suffix_len p xs) 0 (omega arith) (omega arith)
+      (stops_before xs (omega arith))
 
 -- a line without the blanks at its ends may be the text of a name, if anything is left
-pub IsNameText-trim : (text : List ℕ) → list_any is_line_feed text ≡ false → 0 < length (trim text) → IsNameText (trim text)
+pub IsNameText-trim : (text : List ℕ) → list_any is_line_feed text ≡ false → 0 < length (trim text)
+    → IsNameText (trim text)
 IsNameText-trim text h some = record {
   some = some;
-  one_line = list_any-take is_line_feed (length (trim_front text) - suffix_len is_blank (trim_front text)) (trim_front text) (list_any-drop is_line_feed (prefix_len is_blank text) text h);
-  front = prefix_len-take is_blank (length (trim_front text) - suffix_len is_blank (trim_front text)) (trim_front text) (front_fails is_blank text);
+  one_line = list_any-take is_line_feed (length (trim_front text) - suffix_len is_blank (trim_front text))
+      (trim_front text) (list_any-drop is_line_feed (prefix_len is_blank text) text h);
+  front = prefix_len-take is_blank (length (trim_front text) - suffix_len is_blank (trim_front text)) (trim_front text)
+      (front_fails is_blank text);
   back = back_fails is_blank (trim_front text) some;
 }
 
 -- no line feed is added by taking blanks off
 pub list_any-trim : (text : List ℕ) → list_any is_line_feed text ≡ false → list_any is_line_feed (trim text) ≡ false
-list_any-trim text h = list_any-take is_line_feed (length (trim_front text) - suffix_len is_blank (trim_front text)) (trim_front text) (list_any-drop is_line_feed (prefix_len is_blank text) text h)
+list_any-trim text h = list_any-take is_line_feed (length (trim_front text) - suffix_len is_blank (trim_front text))
+    (trim_front text) (list_any-drop is_line_feed (prefix_len is_blank text) text h)

@@ -1,7 +1,10 @@
 -- The numbers and the names of the kinds of faults.
 use Rattle.std.specs.Prelude.{ℕ, List, codes}
 use Rattle.vir_soc.specs.declared.kind.SocKind.{SocKind}
-use Rattle.vir_soc.specs.declared.kind.SocKind.TheVariants.{BadNumber, NoAlternativeCount, TooManyAlternatives, WrongType, BadCount, NoColon, BadEntry, OutOfRange, Repeated, Short, Tie, TooManyOrders, TooManyVoters, VotersDiffer, OrdersDiffer, FileTooLong, CountDiffers}
+use Rattle.vir_soc.specs.declared.kind.SocKind.TheVariants.{BadNumber, NoAlternativeCount, TooManyAlternatives}
+use Rattle.vir_soc.specs.declared.kind.SocKind.TheVariants.{WrongType, BadCount, NoColon, BadEntry, OutOfRange}
+use Rattle.vir_soc.specs.declared.kind.SocKind.TheVariants.{Repeated, Short, Tie, TooManyOrders, TooManyVoters}
+use Rattle.vir_soc.specs.declared.kind.SocKind.TheVariants.{VotersDiffer, OrdersDiffer, FileTooLong, CountDiffers}
 
 -- the name of a kind
 abbrev pub kind_name : SocKind → List ℕ

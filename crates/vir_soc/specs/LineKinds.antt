@@ -22,7 +22,8 @@ pub data LineKind : Type 0 where
 -- a line that begins with a hash, here without it; one without a colon is skipped
 abbrev pub hash_kind : List ℕ → LineKind
 hash_kind text =
-    if list_any is_colon text then metadata (key_of (trim (before_first is_colon text))) (trim (after_first is_colon text))
+    if list_any is_colon text then metadata (key_of (trim (before_first is_colon text)))
+    (trim (after_first is_colon text))
     else skipped
 
 -- a line without blanks at its ends

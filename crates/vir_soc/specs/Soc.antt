@@ -1,5 +1,6 @@
 -- What a file of strict complete orders says, or its first fault.
-use Rattle.std.specs.Prelude.{ℕ, ◌+◌, not, List, [], ◌∷◌, length, take, Option, Some, None, Result, Ok, Err, if◌then◌else◌, nat_eq, nat_le}
+use Rattle.std.specs.Prelude.{ℕ, ◌+◌, not, List, [], ◌∷◌, length, take, Option, Some, None, Result, Ok, Err}
+use Rattle.std.specs.Prelude.{if◌then◌else◌, nat_eq, nat_le}
 use Rattle.std.specs.Option.{ok_or}
 use Rattle.vir_profile.specs.Profiles.{total_weight}
 use Rattle.vir_profile.specs.SocFiles.{File}
@@ -56,7 +57,8 @@ file_of texts = do
 abbrev pub ended_content : List ℕ → Result Content SocFault
 ended_content bytes = content_of_lines (ended_lines bytes)
 
--- the fault of a file that has these bytes and more than it may: that of an ended line, else FileTooLong at the line that goes on
+-- the fault of a file that has these bytes and more than it may: that of an ended line, else FileTooLong at the line
+-- that goes on
 abbrev pub too_long : {A : Type 0} → List ℕ → Result A SocFault
 too_long bytes = do
   _ ← ended_content bytes
@@ -64,11 +66,13 @@ too_long bytes = do
 
 -- the file that the bytes are, or its first fault
 abbrev pub soc : List ℕ → Result File SocFault
-soc bytes = if nat_le (length bytes) profile_size_limit then file_of (lines bytes) else too_long (take profile_size_limit bytes)
+soc bytes = if nat_le (length bytes) profile_size_limit then file_of (lines bytes)
+    else too_long (take profile_size_limit bytes)
 
 -- the content of the ended lines of the bytes, or the first fault that the bytes settle, however they go on
 abbrev pub settled_content : List ℕ → Result Content SocFault
-settled_content bytes = if nat_le (length bytes) profile_size_limit then ended_content bytes else too_long (take profile_size_limit bytes)
+settled_content bytes = if nat_le (length bytes) profile_size_limit then ended_content bytes
+    else too_long (take profile_size_limit bytes)
 
 -- the first fault that the bytes settle, however they go on
 abbrev pub settled : List ℕ → Option SocFault

@@ -5,7 +5,8 @@ use Rattle.std.specs.Option.{ok_or}
 use Rattle.vir_profile.specs.declared.ballot.Entry.{Entry}
 use Rattle.vir_profile.specs.Profiles.{lines_limit, voters_limit, total_weight}
 use Rattle.vir_soc.specs.declared.kind.SocKind.{SocKind}
-use Rattle.vir_soc.specs.declared.kind.SocKind.TheVariants.{NoAlternativeCount, BadCount, NoColon, BadEntry, OutOfRange, Repeated, Short, Tie, TooManyOrders, TooManyVoters}
+use Rattle.vir_soc.specs.declared.kind.SocKind.TheVariants.{NoAlternativeCount, BadCount, NoColon, BadEntry, OutOfRange}
+use Rattle.vir_soc.specs.declared.kind.SocKind.TheVariants.{Repeated, Short, Tie, TooManyOrders, TooManyVoters}
 use Rattle.vir_soc.specs.Checks.{◌>>=◌, refuse}
 use Rattle.vir_soc.specs.Lines.{trim}
 use Rattle.vir_soc.specs.LineKinds.{is_colon}

@@ -24,7 +24,8 @@ pub fn cut(byte: u8, text: &[u8]) -> (&[u8], Option<&[u8]>)
     ensures before { result.0.now ≡ before_first (λ c. nat_eq c byte) text.now }
     ensures after { MatchOption result.1
         (list_any (λ c. nat_eq c byte) text.now ≡ false)
-        (λ rest. (list_any (λ c. nat_eq c byte) text.now ≡ true) × (rest.now ≡ after_first (λ c. nat_eq c byte) text.now)) }
+        (λ rest. (list_any (λ c. nat_eq c byte) text.now ≡ true)
+        × (rest.now ≡ after_first (λ c. nat_eq c byte) text.now)) }
 {
     let end = find(byte, text);
     let before = &text[..end];

@@ -1,5 +1,6 @@
 // What holds of the format. Each law is the contract of a function that does nothing.
-ghost use Rattle.std.specs.Prelude.{◌≡◌, ◌≢◌, ◌<◌, ◌≤◌, ◌++◌, All, List, ℕ, count_by, length, map, nat_le, None, Some, Ok, Err, if◌then◌else◌};
+ghost use Rattle.std.specs.Prelude.{◌≡◌, ◌≢◌, ◌<◌, ◌≤◌, ◌++◌, All, List, ℕ, count_by, length, map, nat_le, None, Some};
+ghost use Rattle.std.specs.Prelude.{Ok, Err, if◌then◌else◌};
 ghost use Rattle.vir_profile.specs.SocFiles.{File, is_line_feed, name_of};
 ghost use Rattle.vir_soc.specs.declared.fault.SocFault.{SocFault};
 ghost use Rattle.vir_soc.specs.declared.kind.SocKind.TheVariants.{VotersDiffer, OrdersDiffer};

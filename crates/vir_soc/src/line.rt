@@ -29,7 +29,8 @@ fn after_votes(alloc: Global, draft: &mut Draft, text: &[u8]) -> Result<(), Stop
 
 fn after_text(alloc: Global, draft: &mut Draft, line: u64, text: &[u8]) -> Result<(), Stop>
     requires { list_any is_line_feed text.now ≡ false }
-    ensures { Gives kind_in (λ _. content_of draft.new) result (after_line (content_of draft.old) line (text_kind text.now)) }
+    ensures { Gives kind_in (λ _. content_of draft.new) result
+        (after_line (content_of draft.old) line (text_kind text.now)) }
 {
     if text.is_empty() {
         return Ok(());

@@ -1,5 +1,6 @@
 // Lines of votes in their usual shape, which are read in one pass.
-ghost use Rattle.std.specs.Prelude.{◌≡◌, ◌≤◌, ◌<◌, ◌^◌, ◌++◌, ◌∷◌, [], List, Ok, None, false, decimal, drop, length, nat_eq, IfSome};
+ghost use Rattle.std.specs.Prelude.{◌≡◌, ◌≤◌, ◌<◌, ◌^◌, ◌++◌, ◌∷◌, [], List, Ok, None, false, decimal, drop, length};
+ghost use Rattle.std.specs.Prelude.{nat_eq, IfSome};
 ghost use Rattle.std.specs.List.{list_any, prefix_len, slice_split};
 ghost use Rattle.vir_altset.specs.Sets.{limit};
 ghost use Rattle.vir_profile.specs.OrderFaults.{order_fault};

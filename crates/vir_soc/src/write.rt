@@ -5,7 +5,8 @@ ghost use Rattle.vir_profile.specs.Profiles.{IsProfile};
 ghost use Rattle.vir_profile.specs.SocFiles.{AreNames, File};
 ghost use Rattle.vir_soc.specs.Limits.{profile_size_limit};
 ghost use Rattle.vir_soc.specs.Soc.{soc};
-ghost use Rattle.vir_soc.specs.SocText.{counts_text, member_text, metadata_text, name_text, order_text, soc_text, votes_text};
+ghost use Rattle.vir_soc.specs.SocText.{counts_text, member_text, metadata_text, name_text, order_text, soc_text};
+ghost use Rattle.vir_soc.specs.SocText.{votes_text};
 
 use itoa::Buffer;
 use std::alloc::{AllocError, Global};

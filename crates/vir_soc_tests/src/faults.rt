@@ -2,6 +2,7 @@
 use crate::answers::expect_fault;
 use crate::samples::SMALL;
 use std::alloc::AllocError;
+use vir_soc::SocKind;
 
 // A text, and the kind and the line of its fault; no kind where the text is a file.
 const CASES: &[(&str, &str, u64)] = &[
@@ -32,7 +33,9 @@ const CASES: &[(&str, &str, u64)] = &[
         0,
     ),
     (
-        "# NUMBER ALTERNATIVES: 1\n000000000000000000000000000000000000000000000000000000000000004: 01\n# NUMBER VOTERS: 4",
+        "# NUMBER ALTERNATIVES: 1
+000000000000000000000000000000000000000000000000000000000000004: 01
+# NUMBER VOTERS: 4",
         "",
         0,
     ),
@@ -162,4 +165,20 @@ fn voters_of_a_small_file(rt: HostRuntime) -> Result<(), AllocError> {
         expect_fault(&rt, rt.alloc(), text.as_bytes(), kind, 1);
     }
     Ok(())
+}
+
+// The kinds by their numbers, which begin at 1.
+const KINDS: &[(SocKind, u8)] = &[
+    (SocKind::BadNumber, 1),
+    (SocKind::OutOfRange, 8),
+    (SocKind::Repeated, 9),
+    (SocKind::FileTooLong, 16),
+    (SocKind::CountDiffers, 17),
+];
+
+#[test]
+fn kinds_have_numbers(rt: HostRuntime) {
+    for (kind, number) in KINDS {
+        assert!(rt; kind.number() == *number);
+    }
 }

@@ -60,16 +60,39 @@ fn the_last_line_of_a_name_counts(rt: HostRuntime) {
 const WRITTEN: &[(&str, &str)] = &[
     (
         SMALL,
-        "# DATA TYPE: soc\n# NUMBER ALTERNATIVES: 3\n# NUMBER VOTERS: 9\n# NUMBER UNIQUE ORDERS: 3\n4: 1,2,3\n3: 2,3,1\n2: 3,2,1\n",
+        "# DATA TYPE: soc
+# NUMBER ALTERNATIVES: 3
+# NUMBER VOTERS: 9
+# NUMBER UNIQUE ORDERS: 3
+4: 1,2,3
+3: 2,3,1
+2: 3,2,1
+",
     ),
     // Two names, one of them with a colon and a comma, a count of 0, and numbers of two digits.
     (
-        "# ALTERNATIVE NAME 11:\tOslo: a, b \n#NUMBER ALTERNATIVES:011\n 0007:11 , 10,9,8,7,6,5,4,3,2,01\n0:1,2,3,4,5,6,7,8,9,10,11\n# ALTERNATIVE NAME 2: #2\n# ALTERNATIVE NAME 12: x",
-        "# DATA TYPE: soc\n# NUMBER ALTERNATIVES: 11\n# NUMBER VOTERS: 7\n# NUMBER UNIQUE ORDERS: 2\n# ALTERNATIVE NAME 2: #2\n# ALTERNATIVE NAME 11: Oslo: a, b\n7: 11,10,9,8,7,6,5,4,3,2,1\n0: 1,2,3,4,5,6,7,8,9,10,11\n",
+        "# ALTERNATIVE NAME 11:\tOslo: a, b \n#NUMBER ALTERNATIVES:011
+ 0007:11 , 10,9,8,7,6,5,4,3,2,01
+0:1,2,3,4,5,6,7,8,9,10,11
+# ALTERNATIVE NAME 2: #2
+# ALTERNATIVE NAME 12: x",
+        "# DATA TYPE: soc
+# NUMBER ALTERNATIVES: 11
+# NUMBER VOTERS: 7
+# NUMBER UNIQUE ORDERS: 2
+# ALTERNATIVE NAME 2: #2
+# ALTERNATIVE NAME 11: Oslo: a, b
+7: 11,10,9,8,7,6,5,4,3,2,1
+0: 1,2,3,4,5,6,7,8,9,10,11
+",
     ),
     (
         "# NUMBER ALTERNATIVES: 2",
-        "# DATA TYPE: soc\n# NUMBER ALTERNATIVES: 2\n# NUMBER VOTERS: 0\n# NUMBER UNIQUE ORDERS: 0\n",
+        "# DATA TYPE: soc
+# NUMBER ALTERNATIVES: 2
+# NUMBER VOTERS: 0
+# NUMBER UNIQUE ORDERS: 0
+",
     ),
 ];
 

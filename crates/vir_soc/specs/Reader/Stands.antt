@@ -10,11 +10,15 @@ use Rattle.vir_soc.specs.Soc.{settled_content}
 use Rattle.vir_soc.specs.Reader.Pieces.{Reading}
 use Rattle.vir_soc.specs.Reader.Views.{reading_of}
 
--- where the rules lead from these bytes: what the ended lines say, the number of the last line and its bytes so far, and the size
+-- where the rules lead from these bytes: what the ended lines say, the number of the last line and its bytes so far,
+-- and the size
 abbrev pub standing : List ℕ → Result Reading SocFault
 standing bytes = do
   content ← settled_content bytes
-  Ok (record { progress = record { content = content; line = length (lines bytes); begun = last_line bytes }; size = length bytes })
+  Ok (record {
+    progress = record { content = content; line = length (lines bytes); begun = last_line bytes };
+    size = length bytes;
+  })
 
 -- what a reader keeps: where it stands, or the error that it answered
 abbrev pub state_of : LineReader → ℕ → Option SocError → Result Reading SocError

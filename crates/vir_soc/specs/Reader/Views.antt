@@ -18,7 +18,13 @@ alternatives_of None = None
 alternatives_of (Some profile) = Some profile.alternatives
 
 abbrev pub content_of : Draft → Content
-content_of s = record { alternatives = alternatives_of s.profile; voters = s.voters; orders = s.orders; names = s.names; votes = votes_of s.profile }
+content_of s = record {
+  alternatives = alternatives_of s.profile;
+  voters = s.voters;
+  orders = s.orders;
+  names = s.names;
+  votes = votes_of s.profile;
+}
 
 abbrev pub progress_of : LineReader → Progress
 progress_of l = record { content = content_of l.draft; line = l.line; begun = l.begun }

@@ -4,7 +4,8 @@ use Rattle.vir_profile.specs.SocFiles.{is_blank}
 use Rattle.vir_soc.proofs.bytes.trim_back.Given as goal
 
 abbrev pub invariant-loop-to : goal.invariant-loop-to
-invariant-loop-to l = (l.to ≤ length l.text) × (l.to + suffix_len is_blank l.text ≡ length l.text + suffix_len is_blank (take l.to l.text))
+invariant-loop-to l = (l.to ≤ length l.text) × (l.to + suffix_len is_blank l.text ≡ length l.text
+    + suffix_len is_blank (take l.to l.text))
 
 abbrev pub decreases-loop-to : goal.decreases-loop-to
 decreases-loop-to l = l.to

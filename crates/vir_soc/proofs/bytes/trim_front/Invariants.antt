@@ -4,7 +4,8 @@ use Rattle.vir_profile.specs.SocFiles.{is_blank}
 use Rattle.vir_soc.proofs.bytes.trim_front.Given as goal
 
 abbrev pub invariant-loop-from : goal.invariant-loop-from
-invariant-loop-from l = (l.from ≤ length l.text) × (prefix_len is_blank l.text ≡ l.from + prefix_len is_blank (drop l.from l.text))
+invariant-loop-from l = (l.from ≤ length l.text) × (prefix_len is_blank l.text ≡ l.from
+    + prefix_len is_blank (drop l.from l.text))
 
 abbrev pub decreases-loop-from : goal.decreases-loop-from
 decreases-loop-from l = length l.text - l.from

@@ -7,9 +7,11 @@ use Rattle.vir_soc.proofs.AnyLemmas.{list_any-drop}
 use Rattle.vir_soc.proofs.TrimLemmas.{IsNameText-trim}
 use Rattle.vir_soc.proofs.metadata.after_metadata.Goals as goal
 
-value_is : (text value trimmed : List ℕ) → list_any is_line_feed text ≡ false → value ≡ after_first is_colon text → trimmed ≡ trim value → 0 < length trimmed → IsNameText trimmed
+value_is : (text value trimmed : List ℕ) → list_any is_line_feed text ≡ false → value ≡ after_first is_colon text
+    → trimmed ≡ trim value → 0 < length trimmed → IsNameText trimmed
 value_is text value trimmed h v t some =
-    let none : list_any is_line_feed value ≡ false = ap (list_any is_line_feed) v ∙ list_any-drop is_line_feed (position_or_len is_colon text + 1) text h in
+    let none : list_any is_line_feed value ≡ false = ap (list_any is_line_feed) v ∙ list_any-drop is_line_feed
+    (position_or_len is_colon text + 1) text h in
     rw t (IsNameText-trim value none (rw (← t) some))
 
 pub after_key-requires-clause-value : goal.after_key-requires-clause-value

@@ -8,7 +8,8 @@ use Rattle.vir_soc.proofs.StandLemmas.{closes, refuses}
 use Rattle.vir_soc.proofs.soc_reader.SocReader.finish.Goals as goal
 
 pub returns-in-Some-clause-file : goal.returns-in-Some-clause-file
-returns-in-Some-clause-file c = λ bytes s. refuses c.args.self bytes s c.in-Some.stop (sym c.self.view_is ∙ ap (state_of c.self.inside.reader c.self.inside.size) c.in-Some.is)
+returns-in-Some-clause-file c = λ bytes s. refuses c.args.self bytes s c.in-Some.stop (sym c.self.view_is
+    ∙ ap (state_of c.self.inside.reader c.self.inside.size) c.in-Some.is)
 
 pub returns-clause-file : goal.returns-clause-file
 returns-clause-file c = λ bytes s.
