@@ -1,3 +1,4 @@
+// Valid code, and how deep its stacks grow.
 ghost use Rattle.std.specs.Prelude.{◌≡◌, ◌+◌, ◌<◌, ◌^◌, length, slice_get};
 ghost use Rattle.std.specs.Option.{option_copied};
 ghost use Rattle.vir_term.specs.Tree.{Tree};

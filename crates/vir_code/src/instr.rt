@@ -1,3 +1,4 @@
+// The instructions.
 use vir_term::Leaf;
 
 /// One instruction of counting code, for a machine with a domain, a stack of splits and a stack of

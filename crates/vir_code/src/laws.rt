@@ -1,3 +1,4 @@
+// What holds of code. Each law is the contract of a function that does nothing.
 ghost use Rattle.vir_code.specs.Code.{CodesAreUnique};
 
 /// No two terms have the same code.

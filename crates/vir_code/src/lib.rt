@@ -5,8 +5,8 @@
 //! is a list of instructions that is the code (`specs/Code.antt`) of a term within the limits, and
 //! `validate` makes one of each such list, and of no other (`specs/Valid.antt`). No two terms have the
 //! same code; `depth` is how large the stacks grow (`specs/Depth.antt`), and `listing` gives the text
-//! (`specs/Listing.antt`). It stands on `vir_term` for terms and their limits, and on `itoa` for
-//! numbers.
+//! (`specs/Listing.antt`). It stands on `vir_term` for terms, their limits and
+//! their texts.
 #![tactic(auto)]
 
 mod code;

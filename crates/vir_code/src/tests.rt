@@ -50,6 +50,35 @@ const LISTING: &str = "0 start-loop
 8 join-seq
 ";
 
+// The code of `until(2,min(plurality))`, and its listing.
+fn until_two(alloc: Global) -> Result<Vec<Instr>, AllocError> {
+    let mut list = Vec::new(alloc);
+    list.push(Instr::StartLoop)?;
+    list.push(Instr::UntilTest { k: 2, exit: 4 })?;
+    list.push(Instr::Call(Leaf::Min(Score::Plurality)))?;
+    list.push(Instr::LoopBack { start: 1 })?;
+    list.push(Instr::EndLoop)?;
+    Ok(list)
+}
+
+const UNTIL_LISTING: &str = "0 start-loop
+1 until-test 2 4
+2 call min(plurality)
+3 loop-back 1
+4 end-loop
+";
+
+#[test]
+fn the_other_loop_is_listed(rt: HostRuntime) -> Result<(), AllocError> {
+    let list = until_two(rt.alloc())?;
+    let Some(code) = validate(list) else {
+        panic!(rt; "no code");
+    };
+    let text = listing(rt.alloc(), &code)?;
+    assert!(rt; text.as_slice() == UNTIL_LISTING.as_bytes());
+    Ok(())
+}
+
 #[test]
 fn code_is_listed(rt: HostRuntime) -> Result<(), AllocError> {
     let list = sample(rt.alloc(), 1, 4)?;

@@ -4,8 +4,8 @@ ghost use Rattle.vir_code.specs.Listing.{instr_text, line_text, listing_text};
 
 use crate::code::Code;
 use crate::instr::Instr;
-use itoa::Buffer;
 use std::alloc::{AllocError, Global};
+use vir_term::{push_leaf, push_number};
 
 /// The listing of the code: one line for each instruction, with its position, its name and its
 /// arguments, in decimal digits and the words of the rule language.
@@ -13,40 +13,39 @@ pub fn listing(alloc: Global, code: &Code) -> Result<Vec<u8>, AllocError>
     ensures { IfOk result (λ text. text.items ≡ listing_text code.now) }
 {
     let mut text = Vec::new(alloc);
-    push_lines(alloc, &mut text, &code.list)?;
+    push_lines(&mut text, &code.list)?;
     Ok(text)
 }
 
 // Appends the lines of a list.
-fn push_lines(alloc: Global, text: &mut Vec<u8>, list: &[Instr]) -> Result<(), AllocError>
+fn push_lines(text: &mut Vec<u8>, list: &[Instr]) -> Result<(), AllocError>
     ensures { OnOk result (text.new.items ≡ text.old.items ++ listing_text list.now) }
 {
     for (at, instr) in list.iter().enumerate() {
-        push_line(alloc, text, at, instr)?;
+        push_line(text, at, instr)?;
     }
     Ok(())
 }
 
 // Appends the line of an instruction at a position.
-fn push_line(alloc: Global, text: &mut Vec<u8>, at: usize, instr: &Instr) -> Result<(), AllocError>
+fn push_line(text: &mut Vec<u8>, at: usize, instr: &Instr) -> Result<(), AllocError>
     ensures { OnOk result (text.new.items ≡ text.old.items ++ line_text at instr.now) }
 {
     push_position(text, at)?;
     text.extend_from_slice(b" ")?;
-    push_instr(alloc, text, instr)?;
+    push_instr(text, instr)?;
     text.push(b'\n')?;
     Ok(())
 }
 
 // Appends the name of an instruction, and its arguments.
-fn push_instr(alloc: Global, text: &mut Vec<u8>, instr: &Instr) -> Result<(), AllocError>
+fn push_instr(text: &mut Vec<u8>, instr: &Instr) -> Result<(), AllocError>
     ensures { OnOk result (text.new.items ≡ text.old.items ++ instr_text instr.now) }
 {
     match instr {
         Instr::Call(leaf) => {
             text.extend_from_slice(b"call ")?;
-            let module = leaf.print(alloc)?;
-            text.extend_from_slice(&module)
+            push_leaf(text, leaf)
         }
         Instr::KeepDomain => text.extend_from_slice(b"keep-domain"),
         Instr::FetchDomain => text.extend_from_slice(b"fetch-domain"),
@@ -69,7 +68,7 @@ fn push_test(text: &mut Vec<u8>, name: &[u8], k: u32, exit: usize) -> Result<(),
     ensures { OnOk result (text.new.items ≡ text.old.items ++ (name.now ++ decimal k ++ codes " " ++ decimal exit)) }
 {
     text.extend_from_slice(name)?;
-    push_count(text, k)?;
+    push_number(text, u64::from(k))?;
     text.extend_from_slice(b" ")?;
     push_position(text, exit)
 }
@@ -78,14 +77,5 @@ fn push_test(text: &mut Vec<u8>, name: &[u8], k: u32, exit: usize) -> Result<(),
 fn push_position(text: &mut Vec<u8>, at: usize) -> Result<(), AllocError>
     ensures { OnOk result (text.new.items ≡ text.old.items ++ decimal at) }
 {
-    let mut buffer = Buffer::new();
-    text.extend_from_slice(buffer.format(at).as_bytes())
-}
-
-// Appends a number of alternatives in decimal digits.
-fn push_count(text: &mut Vec<u8>, k: u32) -> Result<(), AllocError>
-    ensures { OnOk result (text.new.items ≡ text.old.items ++ decimal k) }
-{
-    let mut buffer = Buffer::new();
-    text.extend_from_slice(buffer.format(k).as_bytes())
+    push_number(text, at as u64)
 }

@@ -1,3 +1,4 @@
+// Which lists of instructions are code.
 ghost use Rattle.std.specs.Prelude.{◌≡◌, ◌+◌, ◌≤◌, ◌↔◌, ℕ, IsTrue, [], ◌∷◌, length, MatchOption, SomeIff};
 ghost use Rattle.vir_term.specs.Limits.{IsCount};
 ghost use Rattle.vir_term.specs.Tree.{End, number_of};
@@ -112,7 +113,7 @@ fn loop_start_before(list: &[Instr], end: usize, exit: usize) -> Option<usize>
     if !is_start(&list[end - 2]) {
         return None;
     }
-    let test = tested(&list[end - 1])?;
+    let test = loop_test(&list[end - 1])?;
     if test.exit == exit && is_count(test.k) {
         Some(end - 2)
     } else {
@@ -135,7 +136,7 @@ struct Test {
 }
 
 // The test of a loop, of either kind, if the instruction is one.
-fn tested(instr: &Instr) -> Option<Test>
+fn loop_test(instr: &Instr) -> Option<Test>
     ensures { MatchOption result ((k : End) (exit : ℕ) → instr.now ≡ test_of k exit → ⊥) (λ test. (k : End) × (instr.now ≡ test_of k test.exit) × (number_of k ≡ test.k)) }
 {
     match instr {
