@@ -10,7 +10,7 @@ use Rattle.vir_read.specs.declared.text_fault.TextError.TheVariants.{Fault, Memo
 use Rattle.vir_read.specs.Faults.{OrFault, Fails, ◌>>=◌}
 use Rattle.vir_read.specs.Symbols.{symbol}
 use Rattle.vir_read.specs.RawTrees.{word, none}
-use Rattle.vir_read.specs.Grammar.{Reads, unexpected, members, in_brackets, bracket_then, behind_word, word_then, tree_at, tree_with, tree_within, inside}
+use Rattle.vir_read.specs.Grammar.{Reads, unexpected, members, numeral_of, in_brackets, bracket_then, behind_word, word_then, tree_at, tree_with, tree_within, inside}
 use Rattle.vir_read.proofs.TreeLemmas.{front_symbol, symbol_at, symbol_at-front, get_or-drop_here}
 
 -- ---- numbers in brackets
@@ -23,7 +23,7 @@ brackets_closed text list at e =
     closed [] e = absurd (none-some CloseBracket e)
     closed (t ∷ rest) e = ap (bracket_then text t rest) (same_Some (symbol text t) CloseBracket e)
 
-bracket_open : (text : List ℕ) (t : Token) (rest : List Token) (s : Symbol) → ¬ (Some s ≡ Some CloseBracket) → bracket_then text t rest s ≡ members text (length (t ∷ rest)) (t ∷ rest)
+bracket_open : (text : List ℕ) (t : Token) (rest : List Token) (s : Symbol) → ¬ (Some s ≡ Some CloseBracket) → bracket_then text t rest s ≡ members text CloseBracket (numeral_of text) (length (t ∷ rest)) (t ∷ rest)
 bracket_open text t rest Word h = refl
 bracket_open text t rest Number h = refl
 bracket_open text t rest OpenParenthesis h = refl
@@ -34,10 +34,10 @@ bracket_open text t rest Comma h = refl
 bracket_open text t rest Semicolon h = refl
 bracket_open text t rest Equals h = refl
 
-pub brackets_open : (text : List ℕ) (list : List Token) (at : ℕ) → ¬ (symbol_at text list at ≡ Some CloseBracket) → in_brackets text (drop at list) ≡ members text (length (drop at list)) (drop at list)
+pub brackets_open : (text : List ℕ) (list : List Token) (at : ℕ) → ¬ (symbol_at text list at ≡ Some CloseBracket) → in_brackets text (drop at list) ≡ members text CloseBracket (numeral_of text) (length (drop at list)) (drop at list)
 brackets_open text list at h = open_at (drop at list) (λ x. h (symbol_at-front text list at ∙ x))
   where
-    open_at : (tokens : List Token) → ¬ (front_symbol text tokens ≡ Some CloseBracket) → in_brackets text tokens ≡ members text (length tokens) tokens
+    open_at : (tokens : List Token) → ¬ (front_symbol text tokens ≡ Some CloseBracket) → in_brackets text tokens ≡ members text CloseBracket (numeral_of text) (length tokens) tokens
     open_at [] h = refl
     open_at (t ∷ rest) h = bracket_open text t rest (symbol text t) h
 

@@ -7,6 +7,7 @@ pub mod StepLemmas
 pub mod FrontLemmas
 pub mod ListedLemmas
 pub mod TreeLemmas
+pub mod MemberLemmas
 pub mod RawLemmas
 pub mod BeginLemmas
 pub mod RoundTripTyping

@@ -12,7 +12,7 @@ use Rattle.vir_read.specs.declared.symbol.Symbol.TheVariants.{Word, Number, Open
 use Rattle.vir_read.specs.Faults.{◌>>=◌}
 use Rattle.vir_read.specs.Symbols.{symbol, kind_symbol, byte_symbol}
 use Rattle.vir_read.specs.RawTrees.{RawTree, RawTrees, word, number, bracket, none, more}
-use Rattle.vir_read.specs.Grammar.{Reads, parts, members, bracket_then, word_then, behind_word, tree_within}
+use Rattle.vir_read.specs.Grammar.{Reads, members, numeral_of, bracket_then, word_then, behind_word, tree_within}
 use Rattle.vir_read.specs.Spelling.{IsWord, IsNumber, AreNumbers, IsBracket, IsOf, IsOfTwo, SpellsOrdered, SpellsLeaf, Spells}
 use Rattle.vir_read.specs.Pieces.{Piece, name, digits, sign, Says, SayAll, pieces_of, pieces_of_two, more_pieces, ordered_pieces, leaf_pieces, term_pieces, OpensNothing}
 
@@ -91,21 +91,21 @@ module _ (text : List ℕ) where
 
   -- one tree before a closing parenthesis
   parts-one : (tree : Reads) (most : ℕ) (tokens rest : List Token) (close : Token) (first : RawTree) → 1 ≤ most →
-      tree tokens ≡ Ok (first, close ∷ rest) → symbol text close ≡ CloseParenthesis → parts text tree most tokens ≡ Ok (more first none, rest)
+      tree tokens ≡ Ok (first, close ∷ rest) → symbol text close ≡ CloseParenthesis → members text CloseParenthesis tree most tokens ≡ Ok (more first none, rest)
   parts-one tree zero tokens rest close first some read closes = absurd (omega arith)
   parts-one tree (suc most) tokens rest close first some read closes = rw (read, closes) refl
 
   -- two of them
   parts-two : (tree : Reads) (most : ℕ) (tokens further rest : List Token) (comma close : Token) (first second : RawTree) → 2 ≤ most →
       tree tokens ≡ Ok (first, comma ∷ further) → symbol text comma ≡ Comma → tree further ≡ Ok (second, close ∷ rest) → symbol text close ≡ CloseParenthesis →
-      parts text tree most tokens ≡ Ok (more first (more second none), rest)
+      members text CloseParenthesis tree most tokens ≡ Ok (more first (more second none), rest)
   parts-two tree zero tokens further rest comma close first second some read goes_on read' closes = absurd (omega arith)
   parts-two tree (suc most) tokens further rest comma close first second some read goes_on read' closes =
       rw (read, goes_on, parts-one tree most further rest close second (omega arith) read' closes) refl
 
   -- a word with parts
   within-word : (room : ℕ) (x p : Token) (inner rest : List Token) (found : RawTrees) → symbol text x ≡ Word → symbol text p ≡ OpenParenthesis →
-      parts text (tree_within text room) (length inner) inner ≡ Ok (found, rest) →
+      members text CloseParenthesis (tree_within text room) (length inner) inner ≡ Ok (found, rest) →
       tree_within text (suc room) (x ∷ p ∷ inner) ≡ Ok (word x.start x.end found, rest)
   unfolding tree_within
   within-word room x p inner rest found a b read = rw (a, b, read) refl
@@ -201,7 +201,7 @@ module _ (text : List ℕ) where
 
   -- numbers up to the closing bracket
   members-numbers : (x : ℕ) (order : List ℕ) (most : ℕ) (tokens : List Token) → SayAll text (digits x ∷ (more_pieces order ++ sign 93 ∷ [])) tokens → (rest : List Token) →
-      length tokens ≤ most → (found : RawTrees) × AreNumbers text (x ∷ order) found × (members text most (tokens ++ rest) ≡ Ok (found, rest))
+      length tokens ≤ most → (found : RawTrees) × AreNumbers text (x ∷ order) found × (members text CloseBracket (numeral_of text) most (tokens ++ rest) ≡ Ok (found, rest))
   members-numbers x order zero [] says rest h = absurd says
   members-numbers x order zero (t ∷ tokens) says rest h = absurd (omega arith)
   members-numbers x [] (suc most) tokens says rest h =
@@ -209,7 +209,7 @@ module _ (text : List ℕ) where
       let q = said_last text (sign 93) t.1 t.4 in (
         more (number t.0.start t.0.end) none,
         (number_said x t.0 t.3, tt),
-        ap (λ ts. members text (suc most) (ts ++ rest)) (t.2 ∙ ap (λ ts. t.0 ∷ ts) q.1) ∙ rw (symbol-number x t.0 t.3, symbol-sign 93 q.0 q.2) refl,
+        ap (λ ts. members text CloseBracket (numeral_of text) (suc most) (ts ++ rest)) (t.2 ∙ ap (λ ts. t.0 ∷ ts) q.1) ∙ rw (symbol-number x t.0 t.3, symbol-sign 93 q.0 q.2) refl,
       )
   members-numbers x (y ∷ order) (suc most) tokens says rest h =
       let t = said_first text (digits x) (sign 44 ∷ digits y ∷ (more_pieces order ++ sign 93 ∷ [])) tokens says in
@@ -218,12 +218,12 @@ module _ (text : List ℕ) where
       let others = members-numbers y order most c.1 c.4 rest (omega (arith, n)) in (
         more (number t.0.start t.0.end) others.0,
         (number_said x t.0 t.3, others.1),
-        ap (λ ts. members text (suc most) (ts ++ rest)) (t.2 ∙ ap (λ ts. t.0 ∷ ts) c.2) ∙ rw (symbol-number x t.0 t.3, symbol-sign 44 c.0 c.3, others.2) refl,
+        ap (λ ts. members text CloseBracket (numeral_of text) (suc most) (ts ++ rest)) (t.2 ∙ ap (λ ts. t.0 ∷ ts) c.2) ∙ rw (symbol-number x t.0 t.3, symbol-sign 44 c.0 c.3, others.2) refl,
       )
 
   -- an opening bracket, and numbers
   within-bracket : (room : ℕ) (b t : Token) (inner rest : List Token) (found : RawTrees) → symbol text b ≡ OpenBracket → symbol text t ≡ Number →
-      members text (length (t ∷ inner)) (t ∷ inner) ≡ Ok (found, rest) →
+      members text CloseBracket (numeral_of text) (length (t ∷ inner)) (t ∷ inner) ≡ Ok (found, rest) →
       tree_within text (suc room) (b ∷ t ∷ inner) ≡ Ok (bracket b.start found, rest)
   unfolding tree_within
   within-bracket room b t inner rest found a e read =
@@ -243,7 +243,7 @@ module _ (text : List ℕ) where
         bracket_said (x ∷ order) b.0 all.0 all.1,
         ap (λ ts. tree_within text (suc room) (ts ++ rest)) (b.2 ∙ ap (λ ts. b.0 ∷ ts) t.2)
             ∙ within-bracket room b.0 t.0 (t.1 ++ rest) rest all.0 (symbol-sign 91 b.0 b.3) (symbol-number x t.0 t.3)
-            (sym (ap (λ ts. members text (length (ts ++ rest)) (ts ++ rest)) t.2) ∙ all.2),
+            (sym (ap (λ ts. members text CloseBracket (numeral_of text) (length (ts ++ rest)) (ts ++ rest)) t.2) ∙ all.2),
       )
 
   readable-ordered : (w : List ℕ) (k : ℕ) (order : List ℕ) → Readable 2 (ordered_pieces w k order) (SpellsOrdered text w k order)

@@ -7,6 +7,10 @@ use Rattle.vir_read.specs.declared.token.Token.{Token}
 use Rattle.vir_read.specs.declared.symbol.Symbol.{Symbol}
 use Rattle.vir_read.specs.declared.symbol.Symbol.TheVariants.{Word, Number, OpenParenthesis, CloseParenthesis, OpenBracket, CloseBracket, Comma}
 use Rattle.vir_read.specs.declared.text_fault.TextKind.TheVariants.{Unexpected, TooDeep}
+use Rattle.vir_read.specs.declared.tree_reader.Separator.{Separator}
+use Rattle.vir_read.specs.declared.tree_reader.Separator.TheVariants as separator
+use Rattle.vir_read.specs.declared.tree_reader.Members.{Members}
+use Rattle.vir_read.specs.declared.tree_reader.Members.TheVariants.{Trees, Numbers}
 use Rattle.vir_read.specs.Faults.{OrFault, ◌>>=◌, fault}
 use Rattle.vir_read.specs.Symbols.{symbol, is_same}
 use Rattle.vir_read.specs.RawTrees.{RawTree, RawTrees, word, number, bracket, none, more}
@@ -38,48 +42,35 @@ abbrev pub opened : ℕ → Option Reads → (Reads → Read RawTree) → Read R
 opened at None inside = Err (fault TooDeep at)
 opened at (Some tree) inside = inside tree
 
--- ---- trees in parentheses
+-- ---- lists of trees
 
-abbrev pub part_then : List ℕ → RawTree → (List Token → Read RawTrees) → Token → List Token → Symbol → Read RawTrees
-part_then text first further t rest Comma = further rest >>= λ others. Ok (more first others.0, others.1)
-part_then text first further t rest CloseParenthesis = Ok (more first none, rest)
-part_then text first further t rest _ = unexpected text (t ∷ rest)
+-- what stands behind a tree of a list: a comma, or the sign that closes the list
+abbrev pub separator_of : List ℕ → Symbol → List Token → Read Separator
+separator_of text close [] = unexpected text []
+separator_of text close (t ∷ rest) =
+    if is_same Comma (symbol text t) then Ok (separator.Comma, rest)
+    else (if is_same close (symbol text t) then Ok (separator.Close, rest) else unexpected text (t ∷ rest))
 
--- behind a tree stands a comma and further ones, or the closing parenthesis
-abbrev pub behind_part : List ℕ → RawTree → (List Token → Read RawTrees) → List Token → Read RawTrees
-behind_part text first further [] = unexpected text []
-behind_part text first further (t ∷ rest) = part_then text first further t rest (symbol text t)
+-- behind a comma stand further trees
+abbrev pub goes_on : RawTree → (List Token → Read RawTrees) → List Token → Separator → Read RawTrees
+goes_on first further rest separator.Comma = further rest >>= λ others. Ok (more first others.0, others.1)
+goes_on first further rest separator.Close = Ok (more first none, rest)
 
--- trees, at most so many, up to the closing parenthesis
-abbrev pub parts : List ℕ → Reads → ℕ → List Token → Read RawTrees
-parts text tree zero tokens = unexpected text tokens
-parts text tree (suc most) tokens = tree tokens >>= λ first. behind_part text first.0 (parts text tree most) first.1
+-- trees that are read so, at most so many, up to the sign that closes the list
+abbrev pub members : List ℕ → Symbol → Reads → ℕ → List Token → Read RawTrees
+members text close tree zero tokens = unexpected text tokens
+members text close tree (suc most) tokens =
+    tree tokens >>= λ first. separator_of text close first.1 >>= λ s. goes_on first.0 (members text close tree most) s.1 s.0
 
 -- ---- numbers in brackets
 
-abbrev pub member_then : List ℕ → RawTree → (List Token → Read RawTrees) → Token → List Token → Symbol → Read RawTrees
-member_then text first further t rest Comma = further rest >>= λ others. Ok (more first others.0, others.1)
-member_then text first further t rest CloseBracket = Ok (more first none, rest)
-member_then text first further t rest _ = unexpected text (t ∷ rest)
-
--- behind a number stands a comma and further ones, or the closing bracket
-abbrev pub behind_member : List ℕ → RawTree → (List Token → Read RawTrees) → List Token → Read RawTrees
-behind_member text first further [] = unexpected text []
-behind_member text first further (t ∷ rest) = member_then text first further t rest (symbol text t)
-
-abbrev pub member_at : List ℕ → (List Token → Read RawTrees) → Token → List Token → Symbol → Read RawTrees
-member_at text further t rest Number = behind_member text (number t.start t.end) further rest
-member_at text further t rest _ = unexpected text (t ∷ rest)
-
--- numbers, at most so many, up to the closing bracket
-abbrev pub members : List ℕ → ℕ → List Token → Read RawTrees
-members text zero tokens = unexpected text tokens
-members text (suc most) [] = unexpected text []
-members text (suc most) (t ∷ rest) = member_at text (members text most) t rest (symbol text t)
+-- a number
+abbrev pub numeral_of : List ℕ → Reads
+numeral_of text tokens = symbol_of text Number tokens >>= λ t. Ok (number t.0.start t.0.end, t.1)
 
 abbrev pub bracket_then : List ℕ → Token → List Token → Symbol → Read RawTrees
 bracket_then text t rest CloseBracket = Ok (none, rest)
-bracket_then text t rest _ = members text (length (t ∷ rest)) (t ∷ rest)
+bracket_then text t rest _ = members text CloseBracket (numeral_of text) (length (t ∷ rest)) (t ∷ rest)
 
 -- behind the opening bracket stands the closing one, or numbers
 abbrev pub in_brackets : List ℕ → List Token → Read RawTrees
@@ -89,7 +80,7 @@ in_brackets text (t ∷ rest) = bracket_then text t rest (symbol text t)
 -- ---- trees
 
 abbrev pub word_then : List ℕ → Option Reads → Token → Token → List Token → Symbol → Read RawTree
-word_then text inside t s rest OpenParenthesis = opened s.start inside (λ tree. parts text tree (length rest) rest >>= λ found. Ok (word t.start t.end found.0, found.1))
+word_then text inside t s rest OpenParenthesis = opened s.start inside (λ tree. members text CloseParenthesis tree (length rest) rest >>= λ found. Ok (word t.start t.end found.0, found.1))
 word_then text inside t s rest _ = Ok (word t.start t.end none, s ∷ rest)
 
 -- a word may have trees in parentheses behind it
@@ -125,3 +116,15 @@ unclosed_limit = 80
 -- a tree of a text, and the tokens behind it
 abbrev pub tree_of : List ℕ → Reads
 tree_of text tokens = tree_within text unclosed_limit tokens
+
+-- ---- the members of a list
+
+-- the sign that closes the list
+abbrev pub close_of : Members → Symbol
+close_of (Trees room) = CloseParenthesis
+close_of Numbers = CloseBracket
+
+-- how each of them is read
+abbrev pub member_of : List ℕ → Members → Reads
+member_of text (Trees room) = tree_within text room
+member_of text Numbers = numeral_of text

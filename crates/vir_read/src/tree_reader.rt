@@ -1,16 +1,18 @@
 // Trees of a list of tokens, read from the left.
-ghost use Rattle.std.specs.Prelude.{◌≡◌, ◌+◌, ◌<◌, ◌≤◌, length, drop, slice_get, option_map, Err, Some, IfOk};
+ghost use Rattle.std.specs.Prelude.{◌≡◌, ◌+◌, ◌<◌, ◌≤◌, length, drop, slice_get, option_map, Some, IfOk, OnOk};
 ghost use Rattle.std.specs.Bool.{MatchBool, OnTrue};
 ghost use Rattle.vir_read.specs.declared.symbol.Symbol.TheVariants.{OpenBracket};
 ghost use Rattle.vir_read.specs.declared.text_fault.TextKind.TheVariants.{TooDeep};
 ghost use Rattle.vir_read.specs.Faults.{Gives, fault};
 ghost use Rattle.vir_read.specs.Symbols.{symbol};
-ghost use Rattle.vir_read.specs.RawTrees.{RawTree, gathered, listed, raw_tree};
-ghost use Rattle.vir_read.specs.Grammar.{behind_word, in_brackets, inside, members, parts, tree_at, tree_of, tree_within, unexpected};
+ghost use Rattle.vir_read.specs.RawTrees.{gathered, listed, raw_tree};
+ghost use Rattle.vir_read.specs.Grammar.{behind_word, in_brackets, inside, tree_at, tree_of, tree_within};
+ghost use Rattle.vir_read.specs.Grammar.{close_of, member_of, members, numeral_of, separator_of};
 
+use crate::next_token::{front, read_symbol, unexpected};
 use crate::raw::{Raw, RawList};
 use crate::symbol::Symbol;
-use crate::text_fault::{TextError, TextFault, TextKind};
+use crate::text_fault::{TextError, TextKind};
 use crate::token::Token;
 use std::alloc::Global;
 
@@ -31,6 +33,32 @@ struct ListEnd {
     next: usize,
 }
 
+// What the members of a list are: trees in parentheses, in which so many signs may be unclosed, or numbers in brackets.
+#[derive(Clone, Copy)]
+enum Members {
+    Trees { room: u32 },
+    Numbers,
+}
+
+impl Members {
+    // The sign that closes the list.
+    fn close(self) -> Symbol
+        ensures { result ≡ close_of self }
+    {
+        match self {
+            Members::Trees { .. } => Symbol::CloseParenthesis,
+            Members::Numbers => Symbol::CloseBracket,
+        }
+    }
+}
+
+// What stands behind a member of a list.
+#[derive(Clone, Copy)]
+enum Separator {
+    Comma,
+    Close,
+}
+
 // Whether the token at an index is this to the grammar. None is, where the tokens end.
 fn is_symbol(text: &[u8], list: &[Token], at: usize, wanted: Symbol) -> bool
     ensures symbol { MatchBool result (option_map (λ t. symbol text.now t) (slice_get list.now at) ≡ Some wanted)
@@ -43,121 +71,102 @@ fn is_symbol(text: &[u8], list: &[Token], at: usize, wanted: Symbol) -> bool
     }
 }
 
-// The token at an index isn't allowed, or the text ends too early.
-fn unexpected(text: &[u8], list: &[Token], at: usize) -> TextFault
-    ensures { Err result ≡ unexpected {A = RawTree} text.now (drop at list.now) }
-{
-    let at = match list.get(at) {
-        Some(token) => token.start,
-        None => text.len(),
-    };
-    TextFault {
-        kind: TextKind::Unexpected,
-        at,
-    }
-}
-
 // One more sign would be unclosed than may be.
-fn too_deep(sign: Token) -> TextFault
-    ensures { result ≡ fault TooDeep sign.start }
+fn too_deep(sign: Token) -> TextError
+    ensures { result ≡ TextError.Fault (fault TooDeep sign.start) }
 {
-    TextFault {
-        kind: TextKind::TooDeep,
-        at: sign.start,
+    TextError::fault(TextKind::TooDeep, sign.start)
+}
+
+// What stands behind a member of a list that this sign closes, at an index.
+fn read_separator(
+    text: &[u8],
+    list: &[Token],
+    at: usize,
+    close: Symbol,
+) -> Result<Separator, TextError>
+    ensures exact { Gives (λ s. (s, drop (at + 1) list.now)) result (separator_of text.now close (drop at list.now)) }
+    ensures within { OnOk result (at < length list.now) }
+{
+    let Some(token) = front(list, at) else {
+        return Err(unexpected(text, list, at));
+    };
+    let symbol = token.symbol(text);
+    if symbol.is(Symbol::Comma) {
+        Ok(Separator::Comma)
+    } else if symbol.is(close) {
+        Ok(Separator::Close)
+    } else {
+        Err(unexpected(text, list, at))
     }
 }
 
-// Numbers up to the closing bracket.
+// A number at an index.
+fn read_number(text: &[u8], list: &[Token], at: usize) -> Result<RawEnd, TextError>
+    ensures tree { Gives (λ end. (raw_tree end.raw, drop end.next list.now)) result (numeral_of text.now (drop at list.now)) }
+    ensures forward { IfOk result (λ end. (at < end.next) × (end.next ≤ length list.now)) }
+{
+    let Token { start, end, .. } = read_symbol(text, list, at, Symbol::Number)?;
+    Ok(RawEnd {
+        raw: Raw::Number { start, end },
+        next: at + 1,
+    })
+}
+
+// A member of a list at an index.
+#[cycle(tree)]
+fn read_member(
+    alloc: Global,
+    text: &[u8],
+    list: &[Token],
+    at: usize,
+    kind: Members,
+) -> Result<RawEnd, TextError>
+    requires { at ≤ length list.now }
+    ensures tree { Gives (λ end. (raw_tree end.raw, drop end.next list.now)) result (member_of text.now kind (drop at list.now)) }
+    ensures forward { IfOk result (λ end. (at < end.next) × (end.next ≤ length list.now)) }
+{
+    match kind {
+        Members::Trees { room } => read_tree(alloc, text, list, at, room),
+        Members::Numbers => read_number(text, list, at),
+    }
+}
+
+// Members of a list up to the closing sign.
+#[cycle(tree)]
 fn read_members(
     alloc: Global,
     text: &[u8],
     list: &[Token],
     from: usize,
+    kind: Members,
 ) -> Result<ListEnd, TextError>
     requires { from ≤ length list.now }
     ensures members { Gives (λ end. (gathered (listed end.trees), drop end.next list.now)) result
-        (members text.now (length (drop from list.now)) (drop from list.now)) }
+        (members text.now (close_of kind) (member_of text.now kind) (length (drop from list.now)) (drop from list.now)) }
     ensures forward { IfOk result (λ end. (from < end.next) × (end.next ≤ length list.now)) }
 {
     let mut trees = RawList::new(alloc);
     let mut at = from;
     for _ in from..list.len() {
-        if !is_symbol(text, list, at, Symbol::Number) {
-            return Err(TextError::Fault(unexpected(text, list, at)));
-        }
-        let Token { start, end, .. } = list[at];
-        let behind = at + 1;
-        trees.push(Raw::Number { start, end })?;
-        if is_symbol(text, list, behind, Symbol::Comma) {
-            at = behind + 1;
-        } else if is_symbol(text, list, behind, Symbol::CloseBracket) {
-            return Ok(ListEnd {
-                trees,
-                next: behind + 1,
-            });
-        } else {
-            return Err(TextError::Fault(unexpected(text, list, behind)));
-        }
-    }
-    Err(TextError::Fault(unexpected(text, list, at)))
-}
-
-// What stands behind an opening bracket.
-fn read_brackets(
-    alloc: Global,
-    text: &[u8],
-    list: &[Token],
-    from: usize,
-) -> Result<ListEnd, TextError>
-    requires { from ≤ length list.now }
-    ensures members { Gives (λ end. (gathered (listed end.trees), drop end.next list.now)) result (in_brackets text.now (drop from list.now)) }
-    ensures forward { IfOk result (λ end. (from < end.next) × (end.next ≤ length list.now)) }
-{
-    if is_symbol(text, list, from, Symbol::CloseBracket) {
-        Ok(ListEnd {
-            trees: RawList::new(alloc),
-            next: from + 1,
-        })
-    } else {
-        read_members(alloc, text, list, from)
-    }
-}
-
-// Trees up to the closing parenthesis, in which so many more signs may be unclosed.
-#[cycle(tree)]
-fn read_parts(
-    alloc: Global,
-    text: &[u8],
-    list: &[Token],
-    from: usize,
-    room: u32,
-) -> Result<ListEnd, TextError>
-    requires { from ≤ length list.now }
-    ensures parts { Gives (λ end. (gathered (listed end.trees), drop end.next list.now)) result
-        (parts text.now (tree_within text.now room) (length (drop from list.now)) (drop from list.now)) }
-    ensures forward { IfOk result (λ end. (from < end.next) × (end.next ≤ length list.now)) }
-{
-    let mut trees = RawList::new(alloc);
-    let mut at = from;
-    for _ in from..list.len() {
-        let part = match read_tree(alloc, text, list, at, room) {
-            Ok(part) => part,
+        let member = match read_member(alloc, text, list, at, kind) {
+            Ok(member) => member,
             Err(e) => return Err(e),
         };
-        let behind = part.next;
-        trees.push(part.raw)?;
-        if is_symbol(text, list, behind, Symbol::Comma) {
-            at = behind + 1;
-        } else if is_symbol(text, list, behind, Symbol::CloseParenthesis) {
-            return Ok(ListEnd {
-                trees,
-                next: behind + 1,
-            });
-        } else {
-            return Err(TextError::Fault(unexpected(text, list, behind)));
+        let behind = member.next;
+        trees.push(member.raw)?;
+        match read_separator(text, list, behind, kind.close()) {
+            Ok(Separator::Comma) => at = behind + 1,
+            Ok(Separator::Close) => {
+                return Ok(ListEnd {
+                    trees,
+                    next: behind + 1,
+                });
+            }
+            Err(e) => return Err(e),
         }
     }
-    Err(TextError::Fault(unexpected(text, list, at)))
+    Err(unexpected(text, list, at))
 }
 
 // A word, and the trees in the parentheses behind it, if there are any.
@@ -187,9 +196,15 @@ fn read_word(
         });
     }
     if room == 0 {
-        return Err(TextError::Fault(too_deep(list[from])));
+        return Err(too_deep(list[from]));
     }
-    match read_parts(alloc, text, list, from + 1, room - 1) {
+    match read_members(
+        alloc,
+        text,
+        list,
+        from + 1,
+        Members::Trees { room: room - 1 },
+    ) {
         Ok(ListEnd { trees, next }) => Ok(RawEnd {
             raw: Raw::Word {
                 start,
@@ -202,7 +217,30 @@ fn read_word(
     }
 }
 
+// What stands behind an opening bracket.
+#[cycle(tree)]
+fn read_brackets(
+    alloc: Global,
+    text: &[u8],
+    list: &[Token],
+    from: usize,
+) -> Result<ListEnd, TextError>
+    requires { from ≤ length list.now }
+    ensures members { Gives (λ end. (gathered (listed end.trees), drop end.next list.now)) result (in_brackets text.now (drop from list.now)) }
+    ensures forward { IfOk result (λ end. (from < end.next) × (end.next ≤ length list.now)) }
+{
+    if is_symbol(text, list, from, Symbol::CloseBracket) {
+        Ok(ListEnd {
+            trees: RawList::new(alloc),
+            next: from + 1,
+        })
+    } else {
+        read_members(alloc, text, list, from, Members::Numbers)
+    }
+}
+
 // A list in brackets, whose opening sign is the one before the index.
+#[cycle(tree)]
 fn read_list(
     alloc: Global,
     text: &[u8],
@@ -217,7 +255,7 @@ fn read_list(
     ensures forward { IfOk result (λ end. (from ≤ end.next) × (end.next ≤ length list.now)) }
 {
     if room == 0 {
-        return Err(TextError::Fault(too_deep(sign)));
+        return Err(too_deep(sign));
     }
     match read_brackets(alloc, text, list, from) {
         Ok(ListEnd { trees, next }) => Ok(RawEnd {
@@ -245,7 +283,7 @@ fn read_tree(
     ensures forward { IfOk result (λ end. (from < end.next) × (end.next ≤ length list.now)) }
 {
     if from == list.len() {
-        return Err(TextError::Fault(unexpected(text, list, from)));
+        return Err(unexpected(text, list, from));
     }
     let token = list[from];
     match token.symbol(text) {
@@ -258,7 +296,7 @@ fn read_tree(
             next: from + 1,
         }),
         Symbol::OpenBracket => read_list(alloc, text, list, token, from + 1, room),
-        _ => Err(TextError::Fault(unexpected(text, list, from))),
+        _ => Err(unexpected(text, list, from)),
     }
 }
 
