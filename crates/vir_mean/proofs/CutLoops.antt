@@ -68,7 +68,8 @@ passed-just x member =
 
 -- so not all are deferred at the first turn
 not-all-passed : set.is_subset one_two_three passed ≡ false
-not-all-passed = elim (set.is_subset one_two_three passed) as (λ b. set.is_subset one_two_three passed ≡ b → b ≡ false) [
+not-all-passed = elim (set.is_subset one_two_three passed) as (λ b. set.is_subset one_two_three passed ≡ b
+    → b ≡ false) [
   | true ↦ λ e.
       sym (passed-just 2 (set.is_subset-contains nat_cmp_total one_two_three passed e 2 (contains-one_two_three 2)))
       ∙ contains-insert nobody 1 2 ∙ contains-empty 2

@@ -126,7 +126,8 @@ pub fn plain_result(
     profile: &Profile,
     domain: &AltSet,
 ) -> Result<Split, AllocError>
-    ensures meaning { IfOk result (λ split. split ≡ mean (tree term.now) domain.now (restrict domain.now profile.now.lines)) }
+    ensures meaning { IfOk result (λ split. split
+        ≡ mean (tree term.now) domain.now (restrict domain.now profile.now.lines)) }
     ensures split { IfOk result (IsSplitOf domain.now) }
 {
     if domain.equals(&AltSet::all(profile.alternatives())) {
