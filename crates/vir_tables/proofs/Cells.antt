@@ -1,5 +1,6 @@
 -- Cells of a table of pairs: where they stand, and what a write leaves.
-use Rattle.std.proofs.Common.{◌≡◌, ℕ, zero, suc, ◌+◌, ◌-◌, ◌*◌, ◌<◌, ◌≤◌, true, List, [], ◌∷◌, length, get_or, nat_eq, refl, arith}
+use Rattle.std.proofs.Common.{◌≡◌, ℕ, zero, suc, ◌+◌, ◌-◌, ◌*◌, ◌<◌, ◌≤◌, true, List, [], ◌∷◌, length, get_or, nat_eq}
+use Rattle.std.proofs.Common.{refl, arith}
 use Rattle.std.proofs.Math.Nat.{mul-le-mul_right}
 use Rattle.std.proofs.lemmas.Bool.Decides.{nat_tests}
 use Rattle.vir_tables.specs.Table.{index, IsAlternative}
@@ -10,7 +11,8 @@ row_end m a x h = let k : (a + 1) * m ≤ x * m = mul-le-mul_right m (omega arit
 
 -- each place is in the table
 pub index_lt : (m x y : ℕ) → IsAlternative m x → IsAlternative m y → index m x y < m * m
-index_lt m x y hx hy = let a = hx.low in let b = hx.high in let c = hy.low in let d = hy.high in let k = row_end m (x - 1) m (omega arith) in omega arith
+index_lt m x y hx hy = let a = hx.low in let b = hx.high in let c = hy.low in let d = hy.high in let k =
+    row_end m (x - 1) m (omega arith) in omega arith
 
 -- a number equals itself
 pub eq_itself : (x : ℕ) → nat_eq x x ≡ true

@@ -1,4 +1,5 @@
-ghost use Rattle.std.specs.Prelude.{◌≡◌, true, length, IfOk};
+// Elections, as they are asked about voters and pairs.
+ghost use Rattle.std.specs.Prelude.{◌≡◌, true, length, slice_get, IfOk};
 ghost use Rattle.std.specs.FinSet as set;
 ghost use Rattle.std.specs.Option.{option_copied};
 ghost use Rattle.vir_altset.specs.Sets.{all, limit, IsPart};
@@ -13,11 +14,12 @@ use crate::table::{fill, index};
 use std::alloc::{AllocError, Global};
 use std::marker::Model;
 use vir_mean::Tally;
-use vir_profile::{AltSet, SocFile};
+use vir_profile::{AltSet, Entry, SocFile};
 
 /// A profile to be counted, with the names of its alternatives. It may have a table with a number for
 /// each ordered pair of them. Restriction to a set keeps the number of each pair of its members, so
-/// one table serves all sets. Without one, each question about a pair goes over the lines.
+/// one table serves all sets. Without one, each question about a pair goes over the lines. The answers
+/// are the same.
 #[derive(Drop)]
 pub struct Election {
     file: SocFile,
@@ -33,7 +35,8 @@ impl Model for Election {
 
     ghost view = { λ a. a.file };
 
-    ghost invariant = { λ a. IfSome a.table (λ table. IsTable a.file.profile.alternatives table.items a.file.profile.lines) };
+    ghost invariant = { λ a. IfSome a.table (λ table.
+        IsTable a.file.profile.alternatives table.items a.file.profile.lines) };
 }
 
 impl Election {
@@ -73,6 +76,20 @@ impl Election {
         ensures { result ≡ total_weight self.now.profile.lines }
     {
         self.file.profile().total()
+    }
+
+    /// How many lines its profile has: the orders that were cast, each with its number of voters.
+    pub fn lines(&self) -> usize
+        ensures { result ≡ length self.now.profile.lines }
+    {
+        self.file.profile().lines()
+    }
+
+    /// The line at a place, from 0 on; None exactly where there is none.
+    pub fn line(&self, i: usize) -> Option<&Entry>
+        ensures { option_copied result ≡ slice_get self.now.profile.lines i }
+    {
+        self.file.profile().line(i)
     }
 
     /// The name of alternative x, if its file gives one.

@@ -61,7 +61,8 @@ fn add_first(weights: &mut [u64], order: &[u16], marks: &[bool], weight: u64)
         → number_of weights.old x + weight < 2 ^ 64 }
     ensures size { length weights.new ≡ limit }
     ensures added { (x : ℕ) → 1 ≤ x → x ≤ limit
-        → number_of weights.new x ≡ number_of weights.old x + (if begins_with x (filter (is_marked marks.now) order.now) then weight else 0) }
+        → number_of weights.new x ≡ number_of weights.old x
+        + (if begins_with x (filter (is_marked marks.now) order.now) then weight else 0) }
 {
     if let Some(x) = first_marked(order, marks) {
         weights[usize::from(x) - 1] += weight;

@@ -1,5 +1,6 @@
 // Tables of pairs: one number for each ordered pair of alternatives, row after row.
-ghost use Rattle.std.specs.Prelude.{◌≡◌, ◌+◌, ◌-◌, ◌*◌, ◌<◌, ◌≤◌, ◌^◌, ℕ, All, None, OnOk, length, slice_index, drop, nat_eq, if◌then◌else◌};
+ghost use Rattle.std.specs.Prelude.{◌≡◌, ◌+◌, ◌-◌, ◌*◌, ◌<◌, ◌≤◌, ◌^◌, ℕ, All, None, OnOk, length, slice_index, drop};
+ghost use Rattle.std.specs.Prelude.{nat_eq, if◌then◌else◌};
 ghost use Rattle.vir_altset.specs.Sets.{all, limit};
 ghost use Rattle.vir_profile.specs.OrderFaults.{order_fault};
 ghost use Rattle.vir_profile.specs.Orders.{IsListing, puts_before};
@@ -25,8 +26,10 @@ pub fn index(m: u16, x: u16, y: u16) -> usize
 fn add_in_row(row: &mut [u64], order: &[u16], from: usize, weight: u64)
     requires listed { AreAlternatives (length row.old) order.now }
     requires from { from ≤ length order.now }
-    requires room { (b : ℕ) → IsAlternative (length row.old) b → slice_index row.old (b - 1) + weight_of b weight (drop from order.now) < 2 ^ 64 }
-    ensures added { (b : ℕ) → IsAlternative (length row.old) b → slice_index row.new (b - 1) ≡ slice_index row.old (b - 1) + weight_of b weight (drop from order.now) }
+    requires room { (b : ℕ) → IsAlternative (length row.old) b
+        → slice_index row.old (b - 1) + weight_of b weight (drop from order.now) < 2 ^ 64 }
+    ensures added { (b : ℕ) → IsAlternative (length row.old) b
+        → slice_index row.new (b - 1) ≡ slice_index row.old (b - 1) + weight_of b weight (drop from order.now) }
 {
     for j in from..order.len() {
         row[usize::from(order[j]) - 1] += weight;
@@ -39,9 +42,11 @@ fn add_after(table: &mut [u64], m: u16, x: u16, order: &[u16], from: usize, weig
     requires row { IsAlternative m x }
     requires listed { AreAlternatives m order.now }
     requires from { from ≤ length order.now }
-    requires room { (b : ℕ) → IsAlternative m b → cell table.old m x b + weight_of b weight (drop from order.now) < 2 ^ 64 }
+    requires room { (b : ℕ) → IsAlternative m b
+        → cell table.old m x b + weight_of b weight (drop from order.now) < 2 ^ 64 }
     ensures size { length table.new ≡ m * m }
-    ensures added { Holds m table.new (λ a b. cell table.old m a b + (if nat_eq a x then weight_of b weight (drop from order.now) else 0)) }
+    ensures added { Holds m table.new (λ a b. cell table.old m a b
+        + (if nat_eq a x then weight_of b weight (drop from order.now) else 0)) }
 {
     let start = usize::from(x - 1) * usize::from(m);
     let row = &mut table[start..start + usize::from(m)];
@@ -52,9 +57,11 @@ fn add_after(table: &mut [u64], m: u16, x: u16, order: &[u16], from: usize, weig
 fn add_line(table: &mut [u64], m: u16, order: &[u16], weight: u64)
     requires size { length table.old ≡ m * m }
     requires complete { IsListing (all m) order.now }
-    requires room { (a b : ℕ) → IsAlternative m a → IsAlternative m b → cell table.old m a b + (if puts_before a b order.now then weight else 0) < 2 ^ 64 }
+    requires room { (a b : ℕ) → IsAlternative m a → IsAlternative m b
+        → cell table.old m a b + (if puts_before a b order.now then weight else 0) < 2 ^ 64 }
     ensures size { length table.new ≡ m * m }
-    ensures added { Holds m table.new (λ a b. cell table.old m a b + (if puts_before a b order.now then weight else 0)) }
+    ensures added { Holds m table.new (λ a b. cell table.old m a b
+        + (if puts_before a b order.now then weight else 0)) }
 {
     for i in 0..order.len() {
         add_after(table, m, order[i], order, i + 1, weight);
@@ -77,7 +84,8 @@ fn fill_by_lines(table: &mut [u64], m: u16, lines: &[Entry])
 fn find_places(places: &mut [u16], order: &[u16])
     requires listed { AreAlternatives (length places.old) order.now }
     requires short { length order.now < 2 ^ 16 }
-    ensures { (k : ℕ) → k < length order.now → HasPlace order.now places.new (slice_index order.now k - 1) (slice_index order.now k) }
+    ensures { (k : ℕ) → k < length order.now
+        → HasPlace order.now places.new (slice_index order.now k - 1) (slice_index order.now k) }
 {
     for i in 0..order.len() {
         places[usize::from(order[i]) - 1] = i as u16;
@@ -105,7 +113,8 @@ fn add_row(row: &mut [u64], m: u16, x: u16, lines: &[Entry], places: &[u16])
     requires enough { length lines.now * m ≤ length places.now }
     requires places { ArePlaces m (length lines.now) places.now lines.now }
     requires room { (b : ℕ) → IsAlternative m b → slice_index row.old (b - 1) + pairwise_weight lines.now x b < 2 ^ 64 }
-    ensures added { (b : ℕ) → IsAlternative m b → slice_index row.new (b - 1) ≡ slice_index row.old (b - 1) + pairwise_weight lines.now x b }
+    ensures added { (b : ℕ) → IsAlternative m b
+        → slice_index row.new (b - 1) ≡ slice_index row.old (b - 1) + pairwise_weight lines.now x b }
 {
     for (l, line) in lines.iter().enumerate() {
         let place = places[l * usize::from(m) + (usize::from(x) - 1)];
@@ -124,7 +133,8 @@ fn fill_block(table: &mut [u64], m: u16, lines: &[Entry], places: &mut [u16])
     requires few { m ≤ limit }
     requires enough { length lines.now * m ≤ length places.old }
     requires known { All (λ line. order_fault m line.order ≡ None) lines.now }
-    requires room { (a b : ℕ) → IsAlternative m a → IsAlternative m b → cell table.old m a b + pairwise_weight lines.now a b < 2 ^ 64 }
+    requires room { (a b : ℕ) → IsAlternative m a → IsAlternative m b
+        → cell table.old m a b + pairwise_weight lines.now a b < 2 ^ 64 }
     ensures size { length table.new ≡ m * m }
     ensures places { length places.new ≡ length places.old }
     ensures added { Holds m table.new (λ a b. cell table.old m a b + pairwise_weight lines.now a b) }

@@ -107,7 +107,7 @@ fn pairs_without_a_table(rt: HostRuntime) -> Result<(), AllocError> {
 }
 
 // Alternatives, the given one first and the others in ascending order behind it.
-fn led_by(alloc: Global, m: u16, first: u16) -> Result<Vec<u16>, AllocError> {
+fn order_led_by(alloc: Global, m: u16, first: u16) -> Result<Vec<u16>, AllocError> {
     let mut order = Vec::new(alloc);
     order.push(first)?;
     for x in 1..=m {
@@ -120,8 +120,8 @@ fn led_by(alloc: Global, m: u16, first: u16) -> Result<Vec<u16>, AllocError> {
 
 #[test]
 fn pairs_of_many_alternatives(rt: HostRuntime) -> Result<(), AllocError> {
-    let first = led_by(rt.alloc(), 400, 400)?;
-    let second = led_by(rt.alloc(), 400, 200)?;
+    let first = order_led_by(rt.alloc(), 400, 400)?;
+    let second = order_led_by(rt.alloc(), 400, 200)?;
     let lines = [(5, first.as_slice()), (2, second.as_slice())];
     let election = election_of(&rt, rt.alloc(), 400, &lines)?;
     expect_pair(&rt, &election, 400, 1, 5, true);
@@ -132,6 +132,70 @@ fn pairs_of_many_alternatives(rt: HostRuntime) -> Result<(), AllocError> {
     expect_pair(&rt, &election, 399, 1, 0, false);
     expect_pair(&rt, &election, 82, 83, 7, true);
     expect_pair(&rt, &election, 83, 82, 0, false);
+    Ok(())
+}
+
+// So many alternatives that a table is filled in blocks of lines. The last block isn't full.
+const MANY: u16 = 130;
+
+// Each alternative leads one line, of as many voters as its number, and so many voters are there in all.
+const MANY_VOTERS: u64 = 8_515;
+
+fn file_of_many(rt: &impl Abort, alloc: Global) -> Result<SocFile, AllocError> {
+    let mut profile = Profile::new(alloc, MANY);
+    for x in 1..=MANY {
+        let order = order_led_by(alloc, MANY, x)?;
+        add(rt, alloc, &mut profile, u64::from(x), order.as_slice())?;
+    }
+    Ok(SocFile::of(profile, Vec::new(alloc)))
+}
+
+// Of two alternatives all voters prefer the lower one, but for those whose line the other leads.
+fn expect_below(rt: &impl Abort, election: &Election, y: u16) {
+    let weight = u64::from(y);
+    for x in 1..y {
+        expect_pair(rt, election, x, y, MANY_VOTERS.saturating_sub(weight), true);
+        expect_pair(rt, election, y, x, weight, false);
+    }
+}
+
+fn expect_pairs_of_many(rt: &impl Abort, election: &Election) {
+    assert!(rt; election.lines() == usize::from(MANY));
+    assert!(rt; election.voters() == MANY_VOTERS);
+    for y in 2..=MANY {
+        expect_below(rt, election, y);
+    }
+}
+
+#[test]
+fn pairs_by_blocks_of_lines_and_without_a_table(rt: HostRuntime) -> Result<(), AllocError> {
+    let file = file_of_many(&rt, rt.alloc())?;
+    expect_pairs_of_many(&rt, &Election::of(rt.alloc(), file)?);
+    let file = file_of_many(&rt, rt.alloc())?;
+    expect_pairs_of_many(&rt, &Election::without_table(file));
+    Ok(())
+}
+
+fn expect_line(rt: &impl Abort, election: &Election, i: usize, weight: u64, order: &[u16]) {
+    match election.line(i) {
+        Some(line) => {
+            assert!(rt;
+                line.weight == weight && line.order.alternatives() == order,
+                "line {i}"
+            );
+        }
+        None => panic!(rt; "no line {i}"),
+    }
+}
+
+#[test]
+fn lines_by_their_places(rt: HostRuntime) -> Result<(), AllocError> {
+    let election = election_of(&rt, rt.alloc(), 3, LINES)?;
+    assert!(rt; election.lines() == 3);
+    for (i, (weight, order)) in LINES.iter().enumerate() {
+        expect_line(&rt, &election, i, *weight, order);
+    }
+    assert!(rt; election.line(3).is_none());
     Ok(())
 }
 
@@ -155,7 +219,7 @@ fn as_many_voters_as_there_can_be(rt: HostRuntime) -> Result<(), AllocError> {
 }
 
 // A file without a line, in which the second of three alternatives has a name.
-fn named(alloc: Global) -> Result<SocFile, AllocError> {
+fn file_with_a_name(alloc: Global) -> Result<SocFile, AllocError> {
     let text = NameText::of(Vec::from_slice(alloc, b"Anna")?);
     let mut names = Vec::new(alloc);
     names.push(Name { number: 2, text })?;
@@ -164,7 +228,7 @@ fn named(alloc: Global) -> Result<SocFile, AllocError> {
 
 #[test]
 fn names_are_kept(rt: HostRuntime) -> Result<(), AllocError> {
-    let election = Election::of(rt.alloc(), named(rt.alloc())?)?;
+    let election = Election::of(rt.alloc(), file_with_a_name(rt.alloc())?)?;
     assert!(rt; election.name(2) == Some(b"Anna"));
     assert!(rt; election.name(1).is_none());
     assert!(rt; election.voters() == 0);

@@ -7,6 +7,14 @@ pub overflow_add-weight : goal.overflow_add-weight
 overflow_add-weight c =
     let lines = c.args.lines.now in
     let line = c.line-item.result in
-    let told = ap (puts_before c.args.x c.args.y) (sym c.alternatives.ensures) ∙ sym c.puts_before.ensures ∙ c.if-puts_before.true in
+    let told = ap (puts_before c.args.x c.args.y) (sym c.alternatives.ensures) ∙ sym c.puts_before.ensures
+    ∙ c.if-puts_before.true in
     let counts = ap (λ b. cond b line.weight 0) told in
-    omega (arith, weight_where-drop (puts_before c.args.x c.args.y) lines c.loop-line.line-index line (omega arith) c.line-item.is, counts, c.loop-line.invariant, weight_where_le_total (puts_before c.args.x c.args.y) lines)
+    omega (
+      arith,
+      weight_where-drop (puts_before c.args.x c.args.y) lines c.loop-line.line-index line (omega arith)
+          c.line-item.is,
+      counts,
+      c.loop-line.invariant,
+      weight_where_le_total (puts_before c.args.x c.args.y) lines,
+    )

@@ -6,5 +6,6 @@ use Rattle.vir_tables.proofs.table.fill_block.Given as goal
 abbrev pub invariant-loop-x : goal.invariant-loop-x
 invariant-loop-x l = record {
   size : length l.table ≡ l.m * l.m;
-  cells : (a b : ℕ) → IsAlternative l.m a → IsAlternative l.m b → cell l.table l.m a b ≡ cell l.initial.table l.m a b + cond (nat_lt a l.x) (pairwise_weight l.lines a b) 0;
+  cells : (a b : ℕ) → IsAlternative l.m a → IsAlternative l.m b → cell l.table l.m a b ≡ cell l.initial.table l.m a b
+      + cond (nat_lt a l.x) (pairwise_weight l.lines a b) 0;
 }

@@ -11,7 +11,14 @@ fill_block-requires-clause-room c a b ha hb =
     let s = c.loop-start.start in
     let k : s + c.min.result - s ≡ c.min.result = omega arith in
     let part = ap (λ n. pairwise_weight (take n (drop s lines)) a b) k in
-    omega (arith, part, weight_of_block (puts_before a b) lines s c.min.result, c.loop-start.invariant.cells a b ha hb, weight_where_le_total (puts_before a b) lines, c.requires.known.weights)
+    omega (
+      arith,
+      part,
+      weight_of_block (puts_before a b) lines s c.min.result,
+      c.loop-start.invariant.cells a b ha hb,
+      weight_where_le_total (puts_before a b) lines,
+      c.requires.known.weights,
+    )
 
 pub loop-start-preserved : goal.loop-start-preserved
 loop-start-preserved c =
@@ -24,5 +31,12 @@ loop-start-preserved c =
       places = c.fill_block.ensures.places ∙ c.loop-start.invariant.places;
       cells = λ a b ha hb.
           let part = ap (λ n. pairwise_weight (take n (drop s lines)) a b) k in
-          omega (arith, part, weight_of_block (puts_before a b) lines s c.min.result, c.loop-start.invariant.cells a b ha hb, c.fill_block.ensures.added.at a b ha hb);
+          omega (
+            arith,
+            part,
+            weight_of_block (puts_before a b) lines s c.min.result,
+            c.loop-start.invariant.cells a b
+                ha hb,
+            c.fill_block.ensures.added.at a b ha hb,
+          );
     }
