@@ -19,7 +19,8 @@ use Rattle.vir_mean.proofs.MeaningLaws.{Splits}
 use Rattle.vir_rules.specs.declared.row.Family.TheVariants.{ElectingNobody, ElectingAll, ElectingSome}
 use Rattle.vir_rules.specs.Families.{is_of}
 use Rattle.vir_sound.specs.Truth.{IsProperLeaf}
-use Rattle.vir_sound.proofs.MeaningLemmas.{same_at, none_at, empty_of_not, union_none, left_none, right_none, all_rejected, elected-eliminated, deferred_profile, by_turns, member_of}
+use Rattle.vir_sound.proofs.MeaningLemmas.{same_at, none_at, empty_of_not, union_none, left_none, right_none}
+use Rattle.vir_sound.proofs.MeaningLemmas.{all_rejected, elected-eliminated, deferred_profile, by_turns, member_of}
 use Rattle.vir_sound.proofs.Leaders.{leader_of, test_of_leads}
 
 -- ---- nobody is elected
@@ -38,7 +39,8 @@ pub ne_rev : (m : Meaning) → Splits m → Holds Ne (rev_of m)
 ne_rev m splits a p on = refl
 
 pub ne_seq : (m n : Meaning) → Splits m → Splits n → Holds Ne m → Holds Ne n → Holds Ne (seq_of m n)
-ne_seq m n splits also first second a p on = union_none _ _ (first a p on) (second _ _ (deferred_profile m splits a p on))
+ne_seq m n splits also first second a p on = union_none _ _ (first a p on)
+    (second _ _ (deferred_profile m splits a p on))
 
 pub ne_par : (m n : Meaning) → Splits m → Splits n → Holds Ne m → Holds Ne n → Holds Ne (par_of m n)
 ne_par m n splits also first second a p on = union_none _ _ (first a p on) (second a p on)
@@ -63,13 +65,16 @@ ea_leaf (leaf.Upto s) proper fits a p on = cc
 
 -- what is elected besides is a part
 with_part : (a b d : Set) → b ≡ a → IsPart d a → set.union b d ≡ a
-with_part a b d all part = same_members _ _ (λ x. let same = same_at x all in let inside = part x in grind (arith, nat_tests, set_members))
+with_part a b d all part = same_members _ _ (λ x. let same = same_at x all in let inside = part x
+    in grind (arith, nat_tests, set_members))
 
 part_with : (a b d : Set) → b ≡ a → IsPart d a → set.union d b ≡ a
-part_with a b d all part = same_members _ _ (λ x. let same = same_at x all in let inside = part x in grind (arith, nat_tests, set_members))
+part_with a b d all part = same_members _ _ (λ x. let same = same_at x all in let inside = part x
+    in grind (arith, nat_tests, set_members))
 
 pub ea_seq : (m n : Meaning) → Splits m → Splits n → Holds Ea m → Holds Ea (seq_of m n)
-ea_seq m n splits also first a p on = with_part a _ _ (first a p on) (λ x member. deferred_part a (m a p) (splits a p) x (elected_part _ _ (also (m a p).deferred (restrict (m a p).deferred p)) x member))
+ea_seq m n splits also first a p on = with_part a _ _ (first a p on) (λ x member. deferred_part a (m a p) (splits a p) x
+    (elected_part _ _ (also (m a p).deferred (restrict (m a p).deferred p)) x member))
 
 pub ea_par_left : (m n : Meaning) → Splits m → Splits n → Holds Ea m → Holds Ea (par_of m n)
 ea_par_left m n splits also first a p on = with_part a _ _ (first a p on) (elected_part a (n a p) (also a p))
@@ -86,7 +91,8 @@ el_leaf (leaf.DropFirst k order) proper fits a p on some none = cc
 el_leaf leaf.Plurality proper fits a p on some none =
     let somebody = member_of a some in
     let first = leader_of (plurality_score p) a somebody.one somebody.member in
-    true≢false (sym (contains-retain a _ first.one ∙ ap₂ (λ b c. b && not c) first.member (test_of_leads (plurality_score p) a first.one first.leads)) ∙ none_at first.one none)
+    true≢false (sym (contains-retain a _ first.one ∙ ap₂ (λ b c. b && not c) first.member
+    (test_of_leads (plurality_score p) a first.one first.leads)) ∙ none_at first.one none)
 el_leaf (leaf.Max s) proper fits a p on some none = cc
 el_leaf (leaf.Min s) proper fits a p on some none = cc
 el_leaf (leaf.Below s) proper fits a p on some none = cc
@@ -99,7 +105,8 @@ el_seq_first m n splits also first a p on some none = first a p on some (left_no
 pub el_seq_second : (m n : Meaning) → Splits m → Splits n → Holds Nb m → Holds El n → Holds El (seq_of m n)
 el_seq_second m n splits also first second a p on some none =
     let nobody = left_none _ _ none in
-    let nothing = empty_of_not (m a p).deferred (λ left. second _ _ (deferred_profile m splits a p on) left (right_none _ _ none)) in
+    let nothing = empty_of_not (m a p).deferred (λ left. second _ _ (deferred_profile m splits a p on) left
+    (right_none _ _ none)) in
     first a p on some (all_rejected a (m a p) (splits a p) nobody nothing)
 
 pub el_par_left : (m n : Meaning) → Splits m → Splits n → Holds El m → Holds El (par_of m n)

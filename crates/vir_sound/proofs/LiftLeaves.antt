@@ -1,5 +1,6 @@
 -- The modules under a lift: whom they elect and whom they defer after it.
-use Rattle.std.proofs.Common.{◌≡◌, ◌≢◌, inl, inr, ℕ, Bool, true, false, true≢false, cond, not, ◌||◌, ◌&&◌, nat_eq, nat_lt, List, refl, sym, ap, ◌∙◌, arith, ℤ, pos, ◌≤ℤ◌, ◌<ℤ◌}
+use Rattle.std.proofs.Common.{◌≡◌, ◌≢◌, inl, inr, ℕ, Bool, true, false, true≢false, cond, not, ◌||◌, ◌&&◌, nat_eq}
+use Rattle.std.proofs.Common.{nat_lt, List, refl, sym, ap, ◌∙◌, arith, ℤ, pos, ◌≤ℤ◌, ◌<ℤ◌}
 use Rattle.std.proofs.lemmas.Bool.Decides.{nat_tests}
 use Rattle.std.proofs.lemmas.Int.{ints}
 use Rattle.std.specs.Cmp.{nat_cmp_total}
@@ -23,26 +24,32 @@ use Rattle.vir_mean.specs.Lifts.{Lifts}
 use Rattle.vir_mean.specs.Modules.{leaf_mean}
 use Rattle.vir_mean.specs.Properties.{Holds, StaysOrBecomes}
 use Rattle.vir_mean.specs.Scores.{beats, beats_all, score}
-use Rattle.vir_mean.proofs.LiftedScores.{lifted_score_never_falls, no_other_score_rises, moved_plurality, moved_borda, moved_copeland}
+use Rattle.vir_mean.proofs.LiftedScores.{lifted_score_never_falls, no_other_score_rises, moved_plurality, moved_borda}
+use Rattle.vir_mean.proofs.LiftedScores.{moved_copeland}
 use Rattle.vir_mean.proofs.MemberCounts.{in_items}
 use Rattle.vir_mean.proofs.ScoreComparisons.{list_all-each}
 use Rattle.vir_rules.specs.declared.row.Family.TheVariants.{ElectingSome, Unscored, Leading, Eliminating}
 use Rattle.vir_rules.specs.Families.{is_leading, is_of}
-use Rattle.vir_sound.proofs.Leaders.{Leads, leads_of_test, test_of_leads, leader_of, leaders, leader_leads, IsLift, leaders_stay_or_become}
+use Rattle.vir_sound.proofs.Leaders.{Leads, leads_of_test, test_of_leads, leader_of, leaders, leader_leads, IsLift}
+use Rattle.vir_sound.proofs.Leaders.{leaders_stay_or_become}
 use Rattle.vir_sound.proofs.LiftedEliminations.{AllPass, goes_no_sooner, all_go_still}
 
 -- ---- whom an eliminator defers
 -- the split, by whether all are to go
 abbrev split_by : Set → Set → Bool → Split
 split_by a gone all =
-    cond all (record { elected = set.empty; rejected = set.empty; deferred = a }) (record { elected = set.empty; rejected = gone; deferred = set.difference a gone })
+    cond all (record { elected = set.empty; rejected = set.empty; deferred = a })
+    (record { elected = set.empty; rejected = gone; deferred = set.difference a gone })
 
 -- all are deferred, where all would go; otherwise those who don't
-pub eliminated-deferred : (a : Set) (t : ℕ → Bool) (y : ℕ) → set.contains (eliminated a (set.retain a t)).deferred y ≡ (set.contains a y && (set.is_subset a (set.retain a t) || not (t y)))
-eliminated-deferred a t y = elim (set.is_subset a (set.retain a t)) as (λ b. set.contains (split_by a (set.retain a t) b).deferred y ≡ (set.contains a y && (b || not (t y)))) [
-  | true ↦ all (set.contains a y) (not (t y))
-  | false ↦ contains-difference a (set.retain a t) y ∙ ap (λ b. set.contains a y && not b) (contains-retain a t y) ∙ rest (set.contains a y) (t y)
-]
+pub eliminated-deferred : (a : Set) (t : ℕ → Bool) (y : ℕ) → set.contains (eliminated a (set.retain a t)).deferred y
+    ≡ (set.contains a y && (set.is_subset a (set.retain a t) || not (t y)))
+eliminated-deferred a t y = elim (set.is_subset a (set.retain a t)) as
+    (λ b. set.contains (split_by a (set.retain a t) b).deferred y ≡ (set.contains a y && (b || not (t y)))) [
+      | true ↦ all (set.contains a y) (not (t y))
+      | false ↦ contains-difference a (set.retain a t) y ∙ ap (λ b. set.contains a y && not b) (contains-retain a t y)
+          ∙ rest (set.contains a y) (t y)
+    ]
   where
     all : (b c : Bool) → b ≡ (b && (true || c))
     all b c = grind arith
@@ -59,7 +66,8 @@ eliminated-elected a gone = elim (set.is_subset a gone) as (λ b. (split_by a go
 
 -- `max` defers those whom none passes
 pub max-deferred : (f : ℕ → ℤ) (a : Set) → (eliminated a (set.retain a (is_passed f a))).deferred ≡ leaders f a
-max-deferred f a = same_members _ _ (λ y. eliminated-deferred a (is_passed f a) y ∙ step (set.contains a y) _ (is_passed f a y) (not_all y) ∙ sym (contains-retain a _ y))
+max-deferred f a = same_members _ _ (λ y. eliminated-deferred a (is_passed f a) y ∙ step (set.contains a y) _
+    (is_passed f a y) (not_all y) ∙ sym (contains-retain a _ y))
   where
     step : (b c d : Bool) → (b ≡ true → c ≡ false) → (b && (c || not d)) ≡ (b && not d)
     step b c d some = grind arith
@@ -67,7 +75,9 @@ max-deferred f a = same_members _ _ (λ y. eliminated-deferred a (is_passed f a)
     stays : (y : ℕ) → set.contains a y ≡ true → set.is_subset a (set.retain a (is_passed f a)) ≡ true → ⊥
     stays y member all =
         let leader = leader_of f a y member in
-        true≢false (sym (set.is_subset-contains nat_cmp_total a (set.retain a (is_passed f a)) all leader.one leader.member) ∙ contains-retain a (is_passed f a) leader.one ∙ last _ _ (test_of_leads f a leader.one leader.leads))
+        true≢false (sym (set.is_subset-contains nat_cmp_total a (set.retain a (is_passed f a)) all leader.one
+        leader.member) ∙ contains-retain a (is_passed f a) leader.one
+        ∙ last _ _ (test_of_leads f a leader.one leader.leads))
       where
         last : (b c : Bool) → c ≡ false → (b && c) ≡ false
         last b c none = grind arith
@@ -79,26 +89,33 @@ max-deferred f a = same_members _ _ (λ y. eliminated-deferred a (is_passed f a)
         refuted b h = grind arith
 
 -- x is deferred by a test that it passes no sooner, and passes only with all where all passed
-deferred_still : (a : Set) (x : ℕ) (t u : ℕ → Bool) → set.contains a x ≡ true → (u x ≡ true → t x ≡ true) → (AllPass t a → u x ≡ true → AllPass u a)
-    → set.contains (eliminated a (set.retain a t)).deferred x ≡ true → set.contains (eliminated a (set.retain a u)).deferred x ≡ true
-deferred_still a x t u inside sooner with_all before = eliminated-deferred a u x ∙ step _ _ _ _ _ inside sooner (λ all now. whole (with_all (each all) now)) (sym (eliminated-deferred a t x) ∙ before)
+deferred_still : (a : Set) (x : ℕ) (t u : ℕ → Bool) → set.contains a x ≡ true → (u x ≡ true → t x ≡ true)
+    → (AllPass t a → u x ≡ true → AllPass u a)
+    → set.contains (eliminated a (set.retain a t)).deferred x ≡ true
+    → set.contains (eliminated a (set.retain a u)).deferred x ≡ true
+deferred_still a x t u inside sooner with_all before = eliminated-deferred a u x ∙ step _ _ _ _ _ inside sooner
+    (λ all now. whole (with_all (each all) now)) (sym (eliminated-deferred a t x) ∙ before)
   where
-    step : (i b c d e : Bool) → i ≡ true → (e ≡ true → c ≡ true) → (b ≡ true → e ≡ true → d ≡ true) → (i && (b || not c)) ≡ true → (i && (d || not e)) ≡ true
+    step : (i b c d e : Bool) → i ≡ true → (e ≡ true → c ≡ true) → (b ≡ true → e ≡ true → d ≡ true)
+        → (i && (b || not c)) ≡ true → (i && (d || not e)) ≡ true
     step i b c d e inside sooner with_all before = grind arith
 
     each : set.is_subset a (set.retain a t) ≡ true → AllPass t a
-    each all y member = second (set.contains a y) (t y) (sym (contains-retain a t y) ∙ set.is_subset-contains nat_cmp_total a (set.retain a t) all y member)
+    each all y member = second (set.contains a y) (t y) (sym (contains-retain a t y) ∙ set.is_subset-contains
+        nat_cmp_total a (set.retain a t) all y member)
       where
         second : (b c : Bool) → (b && c) ≡ true → c ≡ true
         second b c both = grind arith
 
     whole : AllPass u a → set.is_subset a (set.retain a u) ≡ true
-    whole all = set.contains-is_subset nat_cmp_total a (set.retain a u) (λ y member. contains-retain a u y ∙ both (set.contains a y) (u y) member (all y member))
+    whole all = set.contains-is_subset nat_cmp_total a (set.retain a u) (λ y member. contains-retain a u y
+        ∙ both (set.contains a y) (u y) member (all y member))
       where
         both : (b c : Bool) → b ≡ true → c ≡ true → (b && c) ≡ true
         both b c one other = grind arith
 
-module _ (a : Set) (p q : List Entry) (x : ℕ) (on : IsElection a p) (on_after : IsElection a q) (inside : set.contains a x ≡ true) (lifted : Lifts x p q) where
+module _ (a : Set) (p q : List Entry) (x : ℕ) (on : IsElection a p) (on_after : IsElection a q)
+    (inside : set.contains a x ≡ true) (lifted : Lifts x p q) where
   lift_of : (s : Score) → IsLift a x (score s a p) (score s a q)
   lift_of s = record {
     inside = inside;
@@ -108,11 +125,14 @@ module _ (a : Set) (p q : List Entry) (x : ℕ) (on : IsElection a p) (on_after 
 
   -- where x leads, it rises as soon as another's score changes
   abbrev Moves : Score → Type 0
-  Moves s = Leads (score s a p) a x → (y : ℕ) → set.contains a y ≡ true → y ≢ x → score s a q y ≢ score s a p y → score s a p x <ℤ score s a q x
+  Moves s = Leads (score s a p) a x → (y : ℕ) → set.contains a y ≡ true → y ≢ x → score s a q y ≢ score s a p y
+      → score s a p x <ℤ score s a q x
 
   -- where x has the greatest Condorcet score, no other changes: two alternatives don't beat each other
   moved_condorcet : Moves Condorcet
-  moved_condorcet leads y member apart moved = absurd (not_both (beats_all_of y winner x inside (other x y (λ e. apart (sym e)))) (beats_all_of x (level _ _ winner (leads y member)) y member (other y x apart)))
+  moved_condorcet leads y member apart moved =
+      absurd (not_both (beats_all_of y winner x inside (other x y (λ e. apart (sym e))))
+      (beats_all_of x (level _ _ winner (leads y member)) y member (other y x apart)))
     where
       other : (x y : ℕ) → x ≢ y → nat_eq x y ≡ false
       other x y apart = grind (arith, nat_tests)
@@ -123,15 +143,18 @@ module _ (a : Set) (p q : List Entry) (x : ℕ) (on : IsElection a p) (on_after 
       was false false falls moved = absurd (moved refl)
 
       winner : beats_all y a p ≡ true
-      winner = was _ _ (no_other_score_rises a p q x on.lists on_after.lists inside lifted Condorcet y member apart) moved
+      winner = was _ _ (no_other_score_rises a p q x on.lists on_after.lists inside lifted Condorcet y member apart)
+          moved
 
       level : (b c : Bool) → b ≡ true → pos (bit b) ≤ℤ pos (bit c) → c ≡ true
       level true true e most = refl
       level true false e most = absurd (omega (arith, ints))
       level false c e most = absurd (true≢false (sym e))
 
-      beats_all_of : (v : ℕ) → beats_all v a p ≡ true → (w : ℕ) → set.contains a w ≡ true → nat_eq w v ≡ false → beats p v w ≡ true
-      beats_all_of v all w there differs = or_else _ _ differs (list_all-each (λ z. nat_eq z v || beats p v z) (set.items a) all w (sym (in_items a w) ∙ there))
+      beats_all_of : (v : ℕ) → beats_all v a p ≡ true → (w : ℕ) → set.contains a w ≡ true → nat_eq w v ≡ false
+          → beats p v w ≡ true
+      beats_all_of v all w there differs = or_else _ _ differs (list_all-each (λ z. nat_eq z v || beats p v z)
+          (set.items a) all w (sym (in_items a w) ∙ there))
         where
           or_else : (b c : Bool) → b ≡ false → (b || c) ≡ true → c ≡ true
           or_else b c no_first either = grind arith
@@ -150,18 +173,24 @@ module _ (a : Set) (p q : List Entry) (x : ℕ) (on : IsElection a p) (on_after 
   moves Condorcet leading leads = moved_condorcet leads
 
   -- those with the greatest score stay, or become x alone
-  scores_lead : (s : Score) → is_leading s ≡ true → set.contains (leaders (score s a p) a) x ≡ true → StaysOrBecomes x (leaders (score s a p) a) (leaders (score s a q) a)
-  scores_lead s leading leader = leaders_stay_or_become (lift_of s) (moves s leading) (leads_of_test (score s a p) a x (leader_leads (score s a p) a x leader))
+  scores_lead : (s : Score) → is_leading s ≡ true → set.contains (leaders (score s a p) a) x ≡ true
+      → StaysOrBecomes x (leaders (score s a p) a) (leaders (score s a q) a)
+  scores_lead s leading leader = leaders_stay_or_become (lift_of s) (moves s leading)
+      (leads_of_test (score s a p) a x (leader_leads (score s a p) a x leader))
 
-  max_defers : (s : Score) → is_leading s ≡ true → set.contains (eliminator Max s a p).deferred x ≡ true → StaysOrBecomes x (eliminator Max s a p).deferred (eliminator Max s a q).deferred
-  max_defers s leading before = by (max-deferred (score s a p) a) (max-deferred (score s a q) a) (scores_lead s leading (sym (ap (λ d. set.contains d x) (max-deferred (score s a p) a)) ∙ before))
+  max_defers : (s : Score) → is_leading s ≡ true → set.contains (eliminator Max s a p).deferred x ≡ true
+      → StaysOrBecomes x (eliminator Max s a p).deferred (eliminator Max s a q).deferred
+  max_defers s leading before = by (max-deferred (score s a p) a) (max-deferred (score s a q) a)
+      (scores_lead s leading (sym (ap (λ d. set.contains d x) (max-deferred (score s a p) a)) ∙ before))
     where
       by : {s t s' t' : Set} → s ≡ s' → t ≡ t' → StaysOrBecomes x s' t' → StaysOrBecomes x s t
       by e f (inl stays) = inl (f ∙ stays ∙ sym e)
       by e f (inr becomes) = inr (f ∙ becomes)
 
-  eliminator_defers : (kind : Elimination) (s : Score) → set.contains (eliminator kind s a p).deferred x ≡ true → set.contains (eliminator kind s a q).deferred x ≡ true
-  eliminator_defers kind s = deferred_still a x (goes kind (score s a p) a) (goes kind (score s a q) a) inside (goes_no_sooner (lift_of s) kind) (all_go_still (lift_of s) kind)
+  eliminator_defers : (kind : Elimination) (s : Score) → set.contains (eliminator kind s a p).deferred x ≡ true
+      → set.contains (eliminator kind s a q).deferred x ≡ true
+  eliminator_defers kind s = deferred_still a x (goes kind (score s a p) a) (goes kind (score s a q) a) inside
+      (goes_no_sooner (lift_of s) kind) (all_go_still (lift_of s) kind)
 
 -- ---- the modules
 not_of : {A : Type 0} → false ≡ true → A
@@ -172,7 +201,8 @@ dli_leaf leaf.Elect of_family a p q x on on_after inside lifted deferred = refl
 dli_leaf leaf.Defer of_family a p q x on on_after inside lifted deferred = refl
 dli_leaf (leaf.PassFirst k order) of_family a p q x on on_after inside lifted deferred = refl
 dli_leaf (leaf.DropFirst k order) of_family a p q x on on_after inside lifted deferred = refl
-dli_leaf leaf.Plurality of_family a p q x on on_after inside lifted deferred = absurd (true≢false (sym deferred ∙ contains-empty x))
+dli_leaf leaf.Plurality of_family a p q x on on_after inside lifted deferred =
+    absurd (true≢false (sym deferred ∙ contains-empty x))
 dli_leaf (leaf.Max s) of_family a p q x on on_after inside lifted deferred = not_of of_family
 dli_leaf (leaf.Min s) of_family a p q x on on_after inside lifted deferred = not_of of_family
 dli_leaf (leaf.Below s) of_family a p q x on on_after inside lifted deferred = not_of of_family
@@ -180,7 +210,8 @@ dli_leaf (leaf.Upto s) of_family a p q x on on_after inside lifted deferred = no
 
 pub imono_leaf : (l : Leaf) → is_of ElectingSome (kind_of l) ≡ true → Holds Imono (leaf_mean l)
 imono_leaf leaf.Elect of_family a p q x on on_after inside lifted elected = inl refl
-imono_leaf leaf.Plurality of_family a p q x on on_after inside lifted elected = scores_lead a p q x on on_after inside lifted Plurality refl elected
+imono_leaf leaf.Plurality of_family a p q x on on_after inside lifted elected = scores_lead a p q x on on_after inside
+    lifted Plurality refl elected
 imono_leaf leaf.Defer of_family a p q x on on_after inside lifted elected = not_of of_family
 imono_leaf (leaf.PassFirst k order) of_family a p q x on on_after inside lifted elected = not_of of_family
 imono_leaf (leaf.DropFirst k order) of_family a p q x on on_after inside lifted elected = not_of of_family
@@ -190,7 +221,11 @@ imono_leaf (leaf.Below s) of_family a p q x on on_after inside lifted elected = 
 imono_leaf (leaf.Upto s) of_family a p q x on on_after inside lifted elected = not_of of_family
 
 pub dimono_leaf : (l : Leaf) → is_of Leading (kind_of l) ≡ true → Holds Dimono (leaf_mean l)
-dimono_leaf (leaf.Max s) of_family = (λ a p on. eliminated-elected a _, λ a p q x on on_after inside lifted. max_defers a p q x on on_after inside lifted s of_family)
+dimono_leaf (leaf.Max s) of_family = (
+  λ a p on. eliminated-elected a _,
+  λ a p q x on on_after inside lifted.
+      max_defers a p q x on on_after inside lifted s of_family,
+)
 dimono_leaf leaf.Elect of_family = not_of of_family
 dimono_leaf leaf.Plurality of_family = not_of of_family
 dimono_leaf leaf.Defer of_family = not_of of_family
@@ -201,10 +236,14 @@ dimono_leaf (leaf.Below s) of_family = not_of of_family
 dimono_leaf (leaf.Upto s) of_family = not_of of_family
 
 pub dmono_leaf : (l : Leaf) → is_of Eliminating (kind_of l) ≡ true → Holds Dmono (leaf_mean l)
-dmono_leaf (leaf.Max s) of_family a p q x on on_after inside lifted = eliminator_defers a p q x on on_after inside lifted Max s
-dmono_leaf (leaf.Min s) of_family a p q x on on_after inside lifted = eliminator_defers a p q x on on_after inside lifted Min s
-dmono_leaf (leaf.Below s) of_family a p q x on on_after inside lifted = eliminator_defers a p q x on on_after inside lifted Below s
-dmono_leaf (leaf.Upto s) of_family a p q x on on_after inside lifted = eliminator_defers a p q x on on_after inside lifted Upto s
+dmono_leaf (leaf.Max s) of_family a p q x on on_after inside lifted = eliminator_defers a p q x on on_after inside
+    lifted Max s
+dmono_leaf (leaf.Min s) of_family a p q x on on_after inside lifted = eliminator_defers a p q x on on_after inside
+    lifted Min s
+dmono_leaf (leaf.Below s) of_family a p q x on on_after inside lifted = eliminator_defers a p q x on on_after inside
+    lifted Below s
+dmono_leaf (leaf.Upto s) of_family a p q x on on_after inside lifted = eliminator_defers a p q x on on_after inside
+    lifted Upto s
 dmono_leaf leaf.Elect of_family a p q x on on_after inside lifted = not_of of_family
 dmono_leaf leaf.Plurality of_family a p q x on on_after inside lifted = not_of of_family
 dmono_leaf leaf.Defer of_family a p q x on on_after inside lifted = not_of of_family

@@ -12,7 +12,8 @@ use Rattle.vir_sound.proofs.MeaningLemmas.{same_at, none_at}
 use Rattle.vir_sound.proofs.WinnerLemmas.{contains-just-same}
 
 -- x is in a set that stays or becomes that of x
-still_in : (x : ℕ) (before after : Set) → set.contains before x ≡ true → StaysOrBecomes x before after → set.contains after x ≡ true
+still_in : (x : ℕ) (before after : Set) → set.contains before x ≡ true → StaysOrBecomes x before after
+    → set.contains after x ≡ true
 still_in x before after inside =
     ⊎_elim
     (λ (stays : after ≡ before). same_at x stays ∙ inside)
@@ -26,10 +27,15 @@ pub dmono_rev : (m : Meaning) → Splits m → Holds Mono m → Holds Dmono (rev
 dmono_rev m splits mono = mono
 
 pub dimono_dli : (m : Meaning) → Splits m → Holds Dli m → Holds Ne m → Holds Dimono m
-dimono_dli m splits dli ne = (ne, λ a p q x at_p at_q inside lift deferred. inl (ap (λ (s : Split). s.deferred) (dli a p q x at_p at_q inside lift deferred)))
+dimono_dli m splits dli ne = (
+  ne,
+  λ a p q x at_p at_q inside lift deferred.
+      inl (ap (λ (s : Split). s.deferred) (dli a p q x at_p at_q inside lift deferred)),
+)
 
 pub dmono_dli : (m : Meaning) → Splits m → Holds Dli m → Holds Dmono m
-dmono_dli m splits dli a p q x at_p at_q inside lift deferred = ap (λ (s : Split). set.contains s.deferred x) (dli a p q x at_p at_q inside lift deferred) ∙ deferred
+dmono_dli m splits dli a p q x at_p at_q inside lift deferred = ap (λ (s : Split). set.contains s.deferred x)
+    (dli a p q x at_p at_q inside lift deferred) ∙ deferred
 
 pub dmono_dimono : (m : Meaning) → Splits m → Holds Dimono m → Holds Dmono m
 dmono_dimono m splits dimono a p q x at_p at_q inside lift deferred =

@@ -1,5 +1,6 @@
 -- What many laws of meanings rest on: sets without members, profiles on what is deferred, and loops by their turns.
-use Rattle.std.proofs.Common.{◌≡◌, ◌≢◌, ℕ, zero, suc, ◌+◌, ◌<◌, ◌≤◌, Bool, true, false, cond, ◌||◌, List, refl, sym, ap, ◌∙◌, subst, arith}
+use Rattle.std.proofs.Common.{◌≡◌, ◌≢◌, ℕ, zero, suc, ◌+◌, ◌<◌, ◌≤◌, Bool, true, false, cond, ◌||◌, List, refl, sym, ap}
+use Rattle.std.proofs.Common.{◌∙◌, subst, arith}
 use Rattle.std.proofs.lemmas.Bool.Decides.{nat_tests}
 use Rattle.std.specs.Cmp.{nat_cmp_total}
 use Rattle.std.specs.FinSet as set
@@ -64,7 +65,8 @@ member_of a some = let size = some_of a some in one_of (set.len a) refl size
 
 -- the union of two empty sets
 pub union_none : (a b : Set) → a ≡ set.empty → b ≡ set.empty → set.union a b ≡ set.empty
-union_none a b one other = empty_of_none (set.union a b) (λ x. let l = none_at x one in let r = none_at x other in let u = contains-union a b x in grind arith)
+union_none a b one other = empty_of_none (set.union a b) (λ x. let l = none_at x one in let r = none_at x other
+    in let u = contains-union a b x in grind arith)
 
 -- both parts of an empty union are empty
 pub left_none : (a b : Set) → set.union a b ≡ set.empty → a ≡ set.empty
@@ -75,26 +77,35 @@ right_none a b none = empty_of_none b (λ x. let all = none_at x none in let u =
 
 -- ---- splits
 -- where nobody is elected, the others make up the set
-pub len_of_not_elected : (a : Set) (s : Split) → IsSplitOf a s → s.elected ≡ set.empty → set.len s.rejected + set.len s.deferred ≡ set.len a
-len_of_not_elected a s split none = let size = len-split a s split in let zero = len_of_empty s.elected none in omega arith
+pub len_of_not_elected : (a : Set) (s : Split) → IsSplitOf a s → s.elected ≡ set.empty → set.len s.rejected
+    + set.len s.deferred ≡ set.len a
+len_of_not_elected a s split none = let size = len-split a s split in let zero = len_of_empty s.elected none
+    in omega arith
 
 -- where nobody is elected or deferred, all are rejected
-pub all_rejected : (a : Set) (s : Split) → IsSplitOf a s → s.elected ≡ set.empty → s.deferred ≡ set.empty → s.rejected ≡ a
-all_rejected a s split no_elected no_deferred = same_members s.rejected a (λ x. let e = none_at x no_elected in let d = none_at x no_deferred in let parts = split.parts x in grind arith)
+pub all_rejected : (a : Set) (s : Split) → IsSplitOf a s → s.elected ≡ set.empty → s.deferred ≡ set.empty → s.rejected
+    ≡ a
+all_rejected a s split no_elected no_deferred = same_members s.rejected a (λ x. let e = none_at x no_elected in let d =
+    none_at x no_deferred in let parts = split.parts x in grind arith)
 
 -- an eliminator elects nobody
 pub elected-eliminated : (a gone : Set) → (eliminated a gone).elected ≡ set.empty
-elected-eliminated a gone = elim (set.is_subset a gone) as (λ b. (cond {A = Split} b (record { elected = set.empty; rejected = set.empty; deferred = a }) (record { elected = set.empty; rejected = gone; deferred = set.difference a gone })).elected ≡ set.empty) [
-  | true ↦ refl
-  | false ↦ refl
-]
+elected-eliminated a gone = elim (set.is_subset a gone) as
+    (λ b. (cond {A = Split} b (record { elected = set.empty; rejected = set.empty; deferred = a })
+    (record { elected = set.empty; rejected = gone; deferred = set.difference a gone })).elected ≡ set.empty) [
+      | true ↦ refl
+      | false ↦ refl
+    ]
 
 -- and doesn't reject all
 pub rejected-eliminated : (a gone : Set) → a ≢ set.empty → (eliminated a gone).rejected ≢ a
-rejected-eliminated a gone some = elim (set.is_subset a gone) as (λ b. set.is_subset a gone ≡ b → (cond {A = Split} b (record { elected = set.empty; rejected = set.empty; deferred = a }) (record { elected = set.empty; rejected = gone; deferred = set.difference a gone })).rejected ≢ a) [
-  | true ↦ λ all none. some (sym none)
-  | false ↦ λ proper same. absurd (cc (proper, set.contains-is_subset nat_cmp_total a gone (λ x member. same_at x same ∙ member)))
-] refl
+rejected-eliminated a gone some = elim (set.is_subset a gone) as (λ b. set.is_subset a gone ≡ b
+    → (cond {A = Split} b (record { elected = set.empty; rejected = set.empty; deferred = a })
+    (record { elected = set.empty; rejected = gone; deferred = set.difference a gone })).rejected ≢ a) [
+      | true ↦ λ all none. some (sym none)
+      | false ↦ λ proper same.
+          absurd (cc (proper, set.contains-is_subset nat_cmp_total a gone (λ x member. same_at x same ∙ member)))
+    ] refl
 
 -- of a part of the set
 only_alternatives : (a d : Set) → IsPart d a → set.contains a 0 ≡ false → set.contains d 0 ≡ false
@@ -104,14 +115,19 @@ only_alternatives a d part none = neither (set.contains d 0) (set.contains a 0) 
     neither in_d in_a there none = grind arith
 
 pub restricted_orders : (a d : Set) (p : List Entry) → IsPart d a → IsElection a p → IsElection d (restrict d p)
-restricted_orders a d p part on = record { positive = only_alternatives a d part on.positive; lists = restricted_lists a d p part on.lists }
+restricted_orders a d p part on = record {
+  positive = only_alternatives a d part on.positive;
+  lists = restricted_lists a d p part on.lists;
+}
 
 -- the profile restricted to what a meaning defers is one on that
-pub deferred_profile : (m : Meaning) → Splits m → (a : Set) (p : List Entry) → IsElection a p → IsElection (m a p).deferred (restrict (m a p).deferred p)
+pub deferred_profile : (m : Meaning) → Splits m → (a : Set) (p : List Entry) → IsElection a p
+    → IsElection (m a p).deferred (restrict (m a p).deferred p)
 deferred_profile m splits a p on = restricted_orders a (m a p).deferred p (deferred_part a (m a p) (splits a p)) on
 
 -- ---- loops
-choice : (P : Split → Type 0) (few whole : Bool) (x y : Split) → (few ≡ true → P x) → (few ≡ false → whole ≡ true → P x) → (few ≡ false → whole ≡ false → P y) → P (cond (few || whole) x y)
+choice : (P : Split → Type 0) (few whole : Bool) (x y : Split) → (few ≡ true → P x) → (few ≡ false → whole ≡ true → P x)
+    → (few ≡ false → whole ≡ false → P y) → P (cond (few || whole) x y)
 choice P true whole x y one two three = one refl
 choice P false true x y one two three = two refl refl
 choice P false false x y one two three = three refl refl
@@ -128,7 +144,8 @@ goes_on (at_most k) n test end = grind (arith, nat_tests)
 pub turn_cases : (P : Split → Type 0) (k : End) (body next : Meaning) → Splits body → (a : Set) (p : List Entry)
     → (IsEnd k (set.len a) → P (all_deferred a p))
     → ((IsEnd k (set.len a) → ⊥) → (body a p).deferred ≡ a → P (all_deferred a p))
-    → ((IsEnd k (set.len a) → ⊥) → IsPart (body a p).deferred a → set.len (body a p).deferred < set.len a → P (joined (body a p) (next (body a p).deferred (restrict (body a p).deferred p))))
+    → ((IsEnd k (set.len a) → ⊥) → IsPart (body a p).deferred a → set.len (body a p).deferred < set.len a
+    → P (joined (body a p) (next (body a p).deferred (restrict (body a p).deferred p))))
     → P (turn k body next a p)
 turn_cases P k body next splits a p few whole more =
     let part = deferred_part a (body a p) (splits a p) in
@@ -140,15 +157,20 @@ turn_cases P k body next splits a p few whole more =
 -- What holds where a loop ends, and goes over from what its body defers to the whole, holds of the loop.
 module _ (k : End) (body : Meaning) (splits : Splits body) (P : Set → List Entry → Split → Type 0)
     (few : (a : Set) (p : List Entry) → IsElection a p → IsEnd k (set.len a) → P a p (all_deferred a p))
-    (whole : (a : Set) (p : List Entry) → IsElection a p → (IsEnd k (set.len a) → ⊥) → (body a p).deferred ≡ a → P a p (all_deferred a p))
-    (more : (a : Set) (p : List Entry) → IsElection a p → (IsEnd k (set.len a) → ⊥) → set.len (body a p).deferred < set.len a
-    → P (body a p).deferred (restrict (body a p).deferred p) (loop_of k body (body a p).deferred (restrict (body a p).deferred p))
+    (whole : (a : Set) (p : List Entry) → IsElection a p → (IsEnd k (set.len a) → ⊥) → (body a p).deferred ≡ a
+    → P a p (all_deferred a p))
+    (more : (a : Set) (p : List Entry) → IsElection a p → (IsEnd k (set.len a) → ⊥) → set.len (body a p).deferred <
+    set.len a
+    → P (body a p).deferred (restrict (body a p).deferred p) (loop_of k body (body a p).deferred
+    (restrict (body a p).deferred p))
     → P a p (joined (body a p) (loop_of k body (body a p).deferred (restrict (body a p).deferred p)))) where
   up_to : (most : ℕ) (a : Set) (p : List Entry) → set.len a < most → IsElection a p → P a p (loop_of k body a p)
   up_to zero a p size on = absurd (omega arith)
   up_to (suc most) a p size on = subst (P a p) (sym (loop_of-turn k body splits a p))
       (turn_cases (P a p) k body (loop_of k body) splits a p (few a p on) (whole a p on)
-      (λ differ part smaller. more a p on differ smaller (up_to most (body a p).deferred (restrict (body a p).deferred p) (omega arith) (deferred_profile body splits a p on))))
+      (λ differ part smaller. more a p on differ smaller
+      (up_to most (body a p).deferred (restrict (body a p).deferred p) (omega arith)
+      (deferred_profile body splits a p on))))
 
   pub by_turns : (a : Set) (p : List Entry) → IsElection a p → P a p (loop_of k body a p)
   by_turns a p on = up_to (suc (set.len a)) a p (omega arith) on

@@ -1,9 +1,11 @@
 -- From laws over meanings to rows of the table: what it takes that a row of each shape is sound.
-use Rattle.std.proofs.Common.{◌≡◌, ℕ, ◌≤◌, Bool, true, false, if◌then◌else◌, List, [], ◌∷◌, Option, Some, None, option_map, map, refl, sym, ap, subst, eqb-true}
+use Rattle.std.proofs.Common.{◌≡◌, ℕ, ◌≤◌, Bool, true, false, if◌then◌else◌, List, [], ◌∷◌, Option, Some, None}
+use Rattle.std.proofs.Common.{option_map, map, refl, sym, ap, subst, eqb-true}
 use Rattle.std.specs.Option.{option_and_then}
 use Rattle.vir_term.specs.declared.leaf.Leaf.{Leaf}
 use Rattle.vir_term.specs.declared.prop.Prop.{Prop}
-use Rattle.vir_term.specs.declared.prop.Prop.TheVariants.{Ne, Ea, El, Defers, Rejects, Elim, Nb, Decr, Dli, Imono, Dimono, Dmono, Mono, Cc, Dcc, Cprog, Ccomp, Neut}
+use Rattle.vir_term.specs.declared.prop.Prop.TheVariants.{Ne, Ea, El, Defers, Rejects, Elim, Nb, Decr, Dli, Imono}
+use Rattle.vir_term.specs.declared.prop.Prop.TheVariants.{Dimono, Dmono, Mono, Cc, Dcc, Cprog, Ccomp, Neut}
 use Rattle.vir_term.specs.Kinds.{kind_of}
 use Rattle.vir_term.specs.Tree.{Tree, leaf, rev, seq, par, loop, exactly, at_most}
 use Rattle.vir_mean.specs.Disjointness.{AreDisjoint}
@@ -75,16 +77,20 @@ none_some x h = cc
 
 -- A row about properties of terms is sound where its law holds of each term of its shape.
 module _ (q : Prop) (shape : Shape) (needs : List Need)
-    (law : (t : Tree) → is_shaped shape (number_of q) (form_of t) ≡ true → IsProper t → Follows (map (filled (letters_of t (number_of q))) needs) (Holds q (mean t))) where
-  shaped_case : (t : Tree) (shaped : Bool) → is_shaped shape (number_of q) (form_of t) ≡ shaped → (needed : List Claim) → IsProper t → needed_by needs (lettered shaped t (number_of q)) ≡ Some needed → AllTrue needed → Holds q (mean t)
+    (law : (t : Tree) → is_shaped shape (number_of q) (form_of t) ≡ true → IsProper t
+    → Follows (map (filled (letters_of t (number_of q))) needs) (Holds q (mean t))) where
+  shaped_case : (t : Tree) (shaped : Bool) → is_shaped shape (number_of q) (form_of t) ≡ shaped → (needed : List Claim)
+      → IsProper t → needed_by needs (lettered shaped t (number_of q)) ≡ Some needed → AllTrue needed → Holds q (mean t)
   shaped_case t true is needed proper e all = followed _ _ (law t is proper) (subst AllTrue (sym (some_same _ _ e)) all)
   shaped_case t false is needed proper e all = none_some needed e
 
   same_case : (p : Prop) (t : Tree) (same : Bool) → is_same q p ≡ same → (needed : List Claim) → IsProper t
-      → needed_by needs (option_map (letters_of t) (option_and_then (λ k. if is_shaped shape k (form_of t) then Some k else None) (if same then Some (number_of q) else None))) ≡ Some needed
+      → needed_by needs (option_map (letters_of t) (option_and_then (λ k. if is_shaped shape k (form_of t) then Some k
+      else None) (if same then Some (number_of q) else None))) ≡ Some needed
       → AllTrue needed → Holds p (mean t)
   same_case p t true is needed proper e all =
-      subst (λ x. Holds x (mean t)) (is_same-one q p is) (shaped_case t (is_shaped shape (number_of q) (form_of t)) refl needed proper e all)
+      subst (λ x. Holds x (mean t)) (is_same-one q p is) (shaped_case t (is_shaped shape (number_of q) (form_of t)) refl
+      needed proper e all)
   same_case p t false is needed proper e all = none_some needed e
 
   pub by_shape : (name : List ℕ) → IsSoundRow (rule name (Has (Is q) shape) needs)
@@ -92,7 +98,8 @@ module _ (q : Prop) (shape : Shape) (needs : List Need)
   by_shape name (disj s t) needed proper e all = none_some needed e
 
 -- a row is sound where the same row is whose conclusion is written out
-of_row : (row : Rule) (conclusion : Conclusion) → row.conclusion ≡ conclusion → IsSoundRow (rule row.name conclusion row.premises) → IsSoundRow row
+of_row : (row : Rule) (conclusion : Conclusion) → row.conclusion ≡ conclusion
+    → IsSoundRow (rule row.name conclusion row.premises) → IsSoundRow row
 of_row row conclusion is sound = subst (λ x. IsSoundRow (rule row.name x row.premises)) (sym is) sound
 
 -- ---- a property without its own number, by the shape of the term
@@ -104,8 +111,10 @@ module _ (q : Prop) (row : Rule) where
   pub by_any : row.conclusion ≡ Has (Is q) Any → ((t : Tree) → Row_law t) → IsSoundRow row
   by_any is law = of_row row (Has (Is q) Any) is (by_shape q Any row.premises (λ t shaped proper. law t) row.name)
 
-  pub by_module : (family : Family) → row.conclusion ≡ Has (Is q) (ModuleOf family) → ((l : Leaf) → IsProperLeaf l → is_of family (kind_of l) ≡ true → Row_law (leaf l)) → IsSoundRow row
-  by_module family is law = of_row row (Has (Is q) (ModuleOf family)) is (by_shape q (ModuleOf family) row.premises at row.name)
+  pub by_module : (family : Family) → row.conclusion ≡ Has (Is q) (ModuleOf family)
+      → ((l : Leaf) → IsProperLeaf l → is_of family (kind_of l) ≡ true → Row_law (leaf l)) → IsSoundRow row
+  by_module family is law = of_row row (Has (Is q) (ModuleOf family)) is (by_shape q (ModuleOf family) row.premises at
+      row.name)
     where
       at : (t : Tree) → is_shaped (ModuleOf family) (number_of q) (form_of t) ≡ true → IsProper t → Row_law t
       at (leaf l) is proper = law l proper is
@@ -144,7 +153,8 @@ module _ (q : Prop) (row : Rule) where
       at (seq first second) is proper = false_true is
       at (loop k body) is proper = false_true is
 
-  pub by_loop : row.conclusion ≡ Has (Is q) Loop → ((k : ℕ) (m : Tree) → 1 ≤ k → Row_law (loop (exactly k) m)) → IsSoundRow row
+  pub by_loop : row.conclusion ≡ Has (Is q) Loop → ((k : ℕ) (m : Tree) → 1 ≤ k → Row_law (loop (exactly k) m))
+      → IsSoundRow row
   by_loop is law = of_row row (Has (Is q) Loop) is (by_shape q Loop row.premises at row.name)
     where
       at : (t : Tree) → is_shaped Loop (number_of q) (form_of t) ≡ true → IsProper t → Row_law t
@@ -159,14 +169,16 @@ module _ (q : Prop) (row : Rule) where
   by_loop_1 is law = of_row row (Has (Is q) LoopOne) is (by_shape q LoopOne row.premises at row.name)
     where
       at : (t : Tree) → is_shaped LoopOne (number_of q) (form_of t) ≡ true → IsProper t → Row_law t
-      at (loop (exactly k) body) is proper = subst (λ (j : ℕ). Row_law (loop (exactly j) body)) (sym (eqb-true k 1 is)) (law body)
+      at (loop (exactly k) body) is proper = subst (λ (j : ℕ). Row_law (loop (exactly j) body)) (sym (eqb-true k 1 is))
+          (law body)
       at (loop (at_most k) body) is proper = false_true is
       at (leaf l) is proper = false_true is
       at (rev part) is proper = false_true is
       at (seq first second) is proper = false_true is
       at (par first second) is proper = false_true is
 
-  pub by_until : row.conclusion ≡ Has (Is q) Until → ((k : ℕ) (m : Tree) → 1 ≤ k → Row_law (loop (at_most k) m)) → IsSoundRow row
+  pub by_until : row.conclusion ≡ Has (Is q) Until → ((k : ℕ) (m : Tree) → 1 ≤ k → Row_law (loop (at_most k) m))
+      → IsSoundRow row
   by_until is law = of_row row (Has (Is q) Until) is (by_shape q Until row.premises at row.name)
     where
       at : (t : Tree) → is_shaped Until (number_of q) (form_of t) ≡ true → IsProper t → Row_law t
@@ -181,7 +193,8 @@ module _ (q : Prop) (row : Rule) where
   by_until_1 is law = of_row row (Has (Is q) UntilOne) is (by_shape q UntilOne row.premises at row.name)
     where
       at : (t : Tree) → is_shaped UntilOne (number_of q) (form_of t) ≡ true → IsProper t → Row_law t
-      at (loop (at_most k) body) is proper = subst (λ (j : ℕ). Row_law (loop (at_most j) body)) (sym (eqb-true k 1 is)) (law body)
+      at (loop (at_most k) body) is proper = subst (λ (j : ℕ). Row_law (loop (at_most j) body)) (sym (eqb-true k 1 is))
+          (law body)
       at (loop (exactly k) body) is proper = false_true is
       at (leaf l) is proper = false_true is
       at (rev part) is proper = false_true is
@@ -191,13 +204,18 @@ module _ (q : Prop) (row : Rule) where
 -- ---- a property of the number k
 -- A row about `defers` of k.
 module _ (shape : Shape) (row : Rule) (concludes : row.conclusion ≡ Has DefersK shape)
-    (law : (k : ℕ) (t : Tree) → is_shaped shape k (form_of t) ≡ true → IsProper t → Follows (map (filled (letters_of t k)) row.premises) (Holds (Defers k) (mean t))) where
-  defers_case : (k : ℕ) (t : Tree) (shaped : Bool) → is_shaped shape k (form_of t) ≡ shaped → (needed : List Claim) → IsProper t → needed_by row.premises (lettered shaped t k) ≡ Some needed → AllTrue needed → Holds (Defers k) (mean t)
-  defers_case k t true is needed proper e all = followed _ _ (law k t is proper) (subst AllTrue (sym (some_same _ _ e)) all)
+    (law : (k : ℕ) (t : Tree) → is_shaped shape k (form_of t) ≡ true → IsProper t
+    → Follows (map (filled (letters_of t k)) row.premises) (Holds (Defers k) (mean t))) where
+  defers_case : (k : ℕ) (t : Tree) (shaped : Bool) → is_shaped shape k (form_of t) ≡ shaped → (needed : List Claim)
+      → IsProper t → needed_by row.premises (lettered shaped t k) ≡ Some needed → AllTrue needed
+      → Holds (Defers k) (mean t)
+  defers_case k t true is needed proper e all = followed _ _ (law k t is proper) (subst AllTrue (sym (some_same _ _ e))
+      all)
   defers_case k t false is needed proper e all = none_some needed e
 
   defers_row : IsSoundRow (rule row.name (Has DefersK shape) row.premises)
-  defers_row (of (Defers k) t) needed proper e all = defers_case k t (is_shaped shape k (form_of t)) refl needed proper e all
+  defers_row (of (Defers k) t) needed proper e all = defers_case k t (is_shaped shape k (form_of t)) refl needed proper
+      e all
   defers_row (of _ t) needed proper e all = none_some needed e
   defers_row (disj s t) needed proper e all = none_some needed e
 
@@ -206,13 +224,18 @@ module _ (shape : Shape) (row : Rule) (concludes : row.conclusion ≡ Has Defers
 
 -- A row about `rejects` of k.
 module _ (shape : Shape) (row : Rule) (concludes : row.conclusion ≡ Has RejectsK shape)
-    (law : (k : ℕ) (t : Tree) → is_shaped shape k (form_of t) ≡ true → IsProper t → Follows (map (filled (letters_of t k)) row.premises) (Holds (Rejects k) (mean t))) where
-  rejects_case : (k : ℕ) (t : Tree) (shaped : Bool) → is_shaped shape k (form_of t) ≡ shaped → (needed : List Claim) → IsProper t → needed_by row.premises (lettered shaped t k) ≡ Some needed → AllTrue needed → Holds (Rejects k) (mean t)
-  rejects_case k t true is needed proper e all = followed _ _ (law k t is proper) (subst AllTrue (sym (some_same _ _ e)) all)
+    (law : (k : ℕ) (t : Tree) → is_shaped shape k (form_of t) ≡ true → IsProper t
+    → Follows (map (filled (letters_of t k)) row.premises) (Holds (Rejects k) (mean t))) where
+  rejects_case : (k : ℕ) (t : Tree) (shaped : Bool) → is_shaped shape k (form_of t) ≡ shaped → (needed : List Claim)
+      → IsProper t → needed_by row.premises (lettered shaped t k) ≡ Some needed → AllTrue needed
+      → Holds (Rejects k) (mean t)
+  rejects_case k t true is needed proper e all = followed _ _ (law k t is proper) (subst AllTrue (sym (some_same _ _ e))
+      all)
   rejects_case k t false is needed proper e all = none_some needed e
 
   rejects_row : IsSoundRow (rule row.name (Has RejectsK shape) row.premises)
-  rejects_row (of (Rejects k) t) needed proper e all = rejects_case k t (is_shaped shape k (form_of t)) refl needed proper e all
+  rejects_row (of (Rejects k) t) needed proper e all = rejects_case k t (is_shaped shape k (form_of t)) refl needed
+      proper e all
   rejects_row (of _ t) needed proper e all = none_some needed e
   rejects_row (disj s t) needed proper e all = none_some needed e
 
@@ -222,9 +245,12 @@ module _ (shape : Shape) (row : Rule) (concludes : row.conclusion ≡ Has Reject
 -- ---- disjointness
 -- A row about two terms is sound where its law holds of each two that are so paired.
 module _ (pairing : Pairing) (row : Rule) (concludes : row.conclusion ≡ Apart pairing)
-    (law : (s t : Tree) (letters : Letters) → paired pairing s t ≡ Some letters → Follows (map (filled letters) row.premises) (AreDisjoint (mean s) (mean t))) where
-  paired_case : (s t : Tree) (letters : Option Letters) → paired pairing s t ≡ letters → (needed : List Claim) → needed_by row.premises letters ≡ Some needed → AllTrue needed → AreDisjoint (mean s) (mean t)
-  paired_case s t (Some letters) is needed e all = followed _ _ (law s t letters is) (subst AllTrue (sym (some_same _ _ e)) all)
+    (law : (s t : Tree) (letters : Letters) → paired pairing s t ≡ Some letters
+    → Follows (map (filled letters) row.premises) (AreDisjoint (mean s) (mean t))) where
+  paired_case : (s t : Tree) (letters : Option Letters) → paired pairing s t ≡ letters → (needed : List Claim)
+      → needed_by row.premises letters ≡ Some needed → AllTrue needed → AreDisjoint (mean s) (mean t)
+  paired_case s t (Some letters) is needed e all = followed _ _ (law s t letters is)
+      (subst AllTrue (sym (some_same _ _ e)) all)
   paired_case s t None is needed e all = none_some needed e
 
   paired_row : IsSoundRow (rule row.name (Apart pairing) row.premises)

@@ -8,6 +8,11 @@ abbrev pub AllSound : List Rule → Type 0
 AllSound [] = Unit {0}
 AllSound (row ∷ rest) = IsSoundRow row × AllSound rest
 
+infixr 20 ◌&◌
+-- two facts, so that a list of sound rows reads as one
+pub ◌&◌ : {A B : Type 0} → A → B → A × B
+a & b = (a, b)
+
 -- so many rows of the table, the first of them of this number
 abbrev pub rows_from : ℕ → ℕ → List Rule
 rows_from first many = take many (drop (first - 1) table)

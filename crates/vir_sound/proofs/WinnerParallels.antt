@@ -30,7 +30,8 @@ cc_par m n one other first second a p w on winner =
     ∙ (λ i. record {
       elected = union-same (just w) i;
       rejected = intersection-same (set.difference a (just w)) i;
-      deferred = (ap (λ d. set.difference d (set.union (just w) (just w))) (union-same set.empty) ∙ empty-difference _) i;
+      deferred = (ap (λ d. set.difference d (set.union (just w) (just w))) (union-same set.empty) ∙ empty-difference _)
+          i;
     })
 
 pub dcc_par : (m n : Meaning) → Splits m → Splits n → Holds Dcc m → Holds Dcc n → Holds Dcc (par_of m n)
@@ -42,8 +43,10 @@ dcc_par m n one other first second a p w on winner =
       deferred = (ap₂ set.difference (union-same (just w)) (union-same set.empty) ∙ difference-empty _) i;
     })
 
-pub ccomp_par : (m n : Meaning) → Splits m → Splits n → Holds Ne m → Holds Ne n → Holds Ccomp m → Holds Ccomp n → Holds Ccomp (par_of m n)
+pub ccomp_par : (m n : Meaning) → Splits m → Splits n → Holds Ne m → Holds Ne n → Holds Ccomp m → Holds Ccomp n
+    → Holds Ccomp (par_of m n)
 ccomp_par m n one other nobody none first second a p w on winner =
     compatible_of_none w a _
     (union_none _ _ (nobody a p on) (none a p on))
-    (contains-intersection (m a p).rejected (n a p).rejected w ∙ ap₂ (λ b c. b && c) (first a p w on winner).kept (second a p w on winner).kept)
+    (contains-intersection (m a p).rejected (n a p).rejected w ∙ ap₂ (λ b c. b && c) (first a p w on winner).kept
+    (second a p w on winner).kept)

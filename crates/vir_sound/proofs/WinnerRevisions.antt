@@ -12,7 +12,9 @@ use Rattle.vir_sound.proofs.WinnerLemmas.{contains-just-same, just_member, len-j
 use Rattle.vir_sound.proofs.MeaningLemmas.{same_at}
 
 pub dcc_rev : (m : Meaning) → Splits m → Holds Cc m → Holds Dcc (rev_of m)
-dcc_rev m one elected a p w on winner = ap (λ (s : Split). record { elected = set.empty; rejected = set.difference a s.elected; deferred = s.elected }) (elected a p w on winner)
+dcc_rev m one elected a p w on winner =
+    ap (λ (s : Split). record { elected = set.empty; rejected = set.difference a s.elected; deferred = s.elected })
+    (elected a p w on winner)
 
 pub cprog_dcc : (m : Meaning) → Splits m → Holds Dcc m → Holds Cprog m
 cprog_dcc m one deferred a p w on winner =
@@ -30,7 +32,8 @@ cprog_dcc m one deferred a p w on winner =
 pub ccomp_cprog : (m : Meaning) → Splits m → Holds Cprog m → Holds Ccomp m
 ccomp_cprog m one progress a p w on winner =
     let is = progress a p w on winner in
-    compatible_of_none w a (m a p) is.none_elected (let parts = (one a p).parts w in let member = is.deferred in grind arith)
+    compatible_of_none w a (m a p) is.none_elected (let parts = (one a p).parts w in let member = is.deferred
+    in grind arith)
 
 pub ccomp_cc : (m : Meaning) → Splits m → Holds Cc m → Holds Ccomp m
 ccomp_cc m one elected a p w on winner =

@@ -15,7 +15,8 @@ use Rattle.vir_mean.specs.Modules.{Meaning}
 use Rattle.vir_mean.specs.Compositions.{joined, seq_of}
 use Rattle.vir_mean.specs.Properties.{Holds, just}
 use Rattle.vir_mean.proofs.MeaningLaws.{Splits}
-use Rattle.vir_sound.proofs.WinnerLemmas.{elects, union-empty, empty-union, just_has_some, part_of_just, left_over, defers_alone, elects_alone, joined-elects, joined-defers, joined_compatible}
+use Rattle.vir_sound.proofs.WinnerLemmas.{elects, union-empty, empty-union, just_has_some, part_of_just, left_over}
+use Rattle.vir_sound.proofs.WinnerLemmas.{defers_alone, elects_alone, joined-elects, joined-defers, joined_compatible}
 use Rattle.vir_sound.proofs.MeaningLemmas.{same_at, union_none, all_rejected, deferred_profile}
 
 module _ (m n : Meaning) (one : Splits m) (other : Splits n) (a : Set) (p : List Entry) (on : IsElection a p) where
@@ -43,7 +44,8 @@ module _ (m n : Meaning) (one : Splits m) (other : Splits n) (a : Set) (p : List
 
   -- a first part that is compatible and elects nobody leaves the winner
   winner_left : (w : ℕ) → IsCondorcetWinner w a p → Holds Ccomp m → Holds Ne m → set.contains left w ≡ true
-  winner_left w winner compatible none = left_over w a (m a p) (one a p) (none a p on) winner.member (compatible a p w on winner).kept
+  winner_left w winner compatible none = left_over w a (m a p) (one a p) (none a p on) winner.member
+      (compatible a p w on winner).kept
 
   -- where both parts together defer all, the first does
   all_left : later.deferred ≡ a → left ≡ a
@@ -58,40 +60,56 @@ cc_seq_first m n one other elected a p w on winner =
     let second = split_of_empty (n set.empty (restrict set.empty p)) (other set.empty (restrict set.empty p)) in
     ap (λ (s : Split). joined s (n s.deferred (restrict s.deferred p))) first
     ∙ ap (joined (elects w a)) second
-    ∙ (λ i. record { elected = union-empty (just w) i; rejected = union-empty (set.difference a (just w)) i; deferred = set.empty })
+    ∙ (λ i. record {
+      elected = union-empty (just w) i;
+      rejected = union-empty (set.difference a (just w)) i;
+      deferred = set.empty;
+    })
 
 pub cc_seq_dcc : (m n : Meaning) → Splits m → Splits n → Holds Dcc m → Holds El n → Holds Cc (seq_of m n)
 cc_seq_dcc m n one other deferred some a p w on winner =
     let first = deferred a p w on winner in
     let alone : left m n one other a p on ≡ just w = ap (λ (s : Split). s.deferred) first in
-    let second = elects_alone w _ _ alone (other _ _) (some _ _ (on_left m n one other a p on) (just_has_some w _ alone)) in
+    let second = elects_alone w _ _ alone (other _ _) (some _ _ (on_left m n one other a p on)
+    (just_has_some w _ alone)) in
     (λ i. joined (first i) (second i))
-    ∙ (λ i. record { elected = empty-union (just w) i; rejected = union-empty (set.difference a (just w)) i; deferred = set.empty })
+    ∙ (λ i. record {
+      elected = empty-union (just w) i;
+      rejected = union-empty (set.difference a (just w)) i;
+      deferred = set.empty;
+    })
 
-pub cc_seq_ccomp : (m n : Meaning) → Splits m → Splits n → Holds Ccomp m → Holds Ne m → Holds Cc n → Holds Cc (seq_of m n)
+pub cc_seq_ccomp : (m n : Meaning) → Splits m → Splits n → Holds Ccomp m → Holds Ne m → Holds Cc n
+    → Holds Cc (seq_of m n)
 cc_seq_ccomp m n one other compatible none elected a p w on winner =
     let member = winner_left m n one other a p on w winner compatible none in
     ap (joined (m a p)) (elected _ _ w (on_left m n one other a p on) (wins_left m n one other a p on w winner member))
     ∙ joined-elects w a (m a p) (one a p) (none a p on) member
 
-pub dcc_seq_ccomp : (m n : Meaning) → Splits m → Splits n → Holds Ccomp m → Holds Ne m → Holds Dcc n → Holds Dcc (seq_of m n)
+pub dcc_seq_ccomp : (m n : Meaning) → Splits m → Splits n → Holds Ccomp m → Holds Ne m → Holds Dcc n
+    → Holds Dcc (seq_of m n)
 dcc_seq_ccomp m n one other compatible none deferred a p w on winner =
     let member = winner_left m n one other a p on w winner compatible none in
     ap (joined (m a p)) (deferred _ _ w (on_left m n one other a p on) (wins_left m n one other a p on w winner member))
     ∙ joined-defers w a (m a p) (one a p) (none a p on) member
 
-pub dcc_seq_first : (m n : Meaning) → Splits m → Splits n → Holds Dcc m → Holds Ne n → Holds Nb n → Holds Dcc (seq_of m n)
+pub dcc_seq_first : (m n : Meaning) → Splits m → Splits n → Holds Dcc m → Holds Ne n → Holds Nb n
+    → Holds Dcc (seq_of m n)
 dcc_seq_first m n one other deferred none kept a p w on winner =
     let first = deferred a p w on winner in
     let alone : left m n one other a p on ≡ just w = ap (λ (s : Split). s.deferred) first in
     let second = later m n one other a p on in
     let split = other (m a p).deferred (restrict (m a p).deferred p) in
     let nobody = none _ _ (on_left m n one other a p on) in
-    let some : second.deferred ≢ set.empty = λ nothing. kept _ _ (on_left m n one other a p on) (just_has_some w _ alone) (all_rejected _ second split nobody nothing) in
-    let last = part_of_just w second.deferred (λ x member. sym (same_at x alone) ∙ later_part m n one other a p on x member) some in
-    defers_alone w a _ (join_split a (m a p) second (one a p) split) (union_none _ _ (ap (λ (s : Split). s.elected) first) nobody) last
+    let some : second.deferred ≢ set.empty = λ nothing. kept _ _ (on_left m n one other a p on)
+    (just_has_some w _ alone) (all_rejected _ second split nobody nothing) in
+    let last = part_of_just w second.deferred (λ x member. sym (same_at x alone) ∙ later_part m n one other a p on x
+    member) some in
+    defers_alone w a _ (join_split a (m a p) second (one a p) split)
+    (union_none _ _ (ap (λ (s : Split). s.elected) first) nobody) last
 
-pub cprog_seq_first : (m n : Meaning) → Splits m → Splits n → Holds Cprog m → Holds Ccomp n → Holds Ne n → Holds Cprog (seq_of m n)
+pub cprog_seq_first : (m n : Meaning) → Splits m → Splits n → Holds Cprog m → Holds Ccomp n → Holds Ne n
+    → Holds Cprog (seq_of m n)
 cprog_seq_first m n one other progress compatible none a p w on winner =
     let first = progress a p w on winner in
     let wins = wins_left m n one other a p on w winner first.deferred in
@@ -99,11 +117,13 @@ cprog_seq_first m n one other progress compatible none a p w on winner =
     let second = compatible _ _ w (on_left m n one other a p on) wins in
     record {
       none_elected = union_none _ _ first.none_elected nobody;
-      deferred = left_over w _ _ (other (m a p).deferred (restrict (m a p).deferred p)) nobody first.deferred second.kept;
+      deferred = left_over w _ _ (other (m a p).deferred (restrict (m a p).deferred p)) nobody first.deferred
+          second.kept;
       fewer = λ two all. first.fewer two (all_left m n one other a p on all);
     }
 
-pub cprog_seq_second : (m n : Meaning) → Splits m → Splits n → Holds Ccomp m → Holds Ne m → Holds Cprog n → Holds Cprog (seq_of m n)
+pub cprog_seq_second : (m n : Meaning) → Splits m → Splits n → Holds Ccomp m → Holds Ne m → Holds Cprog n
+    → Holds Cprog (seq_of m n)
 cprog_seq_second m n one other compatible none progress a p w on winner =
     let member = winner_left m n one other a p on w winner compatible none in
     let second = progress _ _ w (on_left m n one other a p on) (wins_left m n one other a p on w winner member) in

@@ -26,8 +26,8 @@ IsProperLeaf (PassFirst k order) = 1 ≤ k
 IsProperLeaf (DropFirst k order) = 1 ≤ k
 IsProperLeaf _ = Unit {0}
 
--- Each number of alternatives that a term names is at least 1. This holds of each term within the limits; without it `pass` and
--- `drop` of 0 would break rules.
+-- Each number of alternatives that a term names is at least 1. This holds of each term within the limits;
+-- without it `pass` and `drop` of 0 would break rules.
 abbrev pub IsProper : Tree → Type 0
 IsProper (leaf l) = IsProperLeaf l
 IsProper (rev part) = IsProper part
@@ -42,7 +42,8 @@ IsProperClaim (disj left right) = IsProper left × IsProper right
 
 -- A row is sound: each claim that it concludes is true where its premises are.
 abbrev pub IsSoundRow : Rule → Type 0
-IsSoundRow row = (c : Claim) (needed : List Claim) → IsProperClaim c → premises_by row c ≡ Some needed → AllTrue needed → IsTrueClaim c
+IsSoundRow row = (c : Claim) (needed : List Claim) → IsProperClaim c → premises_by row c ≡ Some needed → AllTrue needed
+    → IsTrueClaim c
 
 -- The rule of this number has this name, and is sound.
 pub record IsSound (number : ℕ) (name : List ℕ) : Type 0 where

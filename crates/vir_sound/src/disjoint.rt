@@ -1,5 +1,5 @@
-// The rules on which terms are disjoint. Each law is the contract of a function that does nothing, and is named after the
-// rule.
+// The rules on which terms are disjoint. Each law is the contract of a function that does nothing, and is named
+// after the rule.
 ghost use Rattle.std.specs.Prelude.{codes};
 ghost use Rattle.vir_sound.specs.Truth.{IsSound};
 

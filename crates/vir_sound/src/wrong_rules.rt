@@ -1,5 +1,6 @@
-// Rules that the table doesn't have, since they aren't sound: each is one of its rows without a premise, or about more terms, and
-// comes with a judgement that it would derive and that is false. Each law is the contract of a function that does nothing.
+// Rules that the table doesn't have, since they aren't sound: each is one of its rows without a premise, or
+// about more terms, and comes with a judgement that it would derive and that is false. Each law is the contract
+// of a function that does nothing.
 ghost use Rattle.std.specs.Prelude.{[], ◌∷◌, codes};
 ghost use Rattle.vir_term.specs.declared.leaf.Leaf.TheVariants.{Defer, Max, PassFirst, Plurality};
 ghost use Rattle.vir_term.specs.declared.prop.Prop.TheVariants.{Ne, Defers, Nb, Dli, Dimono, Dcc, Cprog, Neut};
@@ -49,7 +50,8 @@ pub fn lifts_of_deferred_losers_matter()
 /// `loop(1,defer)` never comes down to one alternative: `defers-loop-one` wants a body that rejects somebody.
 pub fn loops_may_go_nowhere()
     ensures judgement { Holds (Defers 1) (mean (loop (exactly 1) (leaf Defer))) → ⊥ }
-    ensures row { IsSoundRow (rule (codes "defers-loop-one") (Has (Is (Defers 1)) LoopOne) (Of (Is Ne) M ∷ Of (Is Nb) M ∷ []))
+    ensures row { IsSoundRow (rule (codes "defers-loop-one") (Has (Is (Defers 1)) LoopOne) (Of (Is Ne) M ∷ Of (Is Nb) M
+        ∷ []))
         → ⊥ }
 {}
 
