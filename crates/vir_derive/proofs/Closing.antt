@@ -19,7 +19,7 @@ use Rattle.vir_rules.specs.Forms.{Form, form_of, first_part, second_part}
 use Rattle.vir_rules.specs.Premises.{letters_of, number_in, number_for, prop_for, filled, row_of}
 use Rattle.vir_rules.specs.Props.{rank}
 use Rattle.vir_rules.specs.Table.{Rule, table}
-use Rattle.vir_derive.specs.Signatures.{is_composed}
+use Rattle.vir_derive.specs.DerivableProps.{is_composed}
 use Rattle.vir_derive.specs.Numbers.{is_need_within}
 use Rattle.vir_derive.specs.Within.{is_within, AreAlike, HaveLikeParts}
 use Rattle.vir_derive.proofs.Deriving.{derivable_by, IsServed, served}

@@ -1,4 +1,4 @@
--- Each claim is derivable or not: so what is known of a struct's marks up to the choice of a derivation, is known.
+-- Each claim is derivable or not: so what is known of a struct's tree up to the choice of a derivation, is known.
 use Rattle.std.proofs.Common.{◌≡◌, ◌⊎◌, inl, inr, ℕ, zero, suc, ◌+◌, ◌<◌, ◌≤◌, Bool, true, false, List, [], ◌∷◌, Option, Some, None, slice_get, refl, subst, arith}
 use Rattle.std.proofs.Math.Logic.{∥∥₁_elim, ∥∥₁_map}
 use mathlib.Core.HLevel.{⊥_prop}
@@ -7,11 +7,11 @@ use Rattle.vir_term.specs.Tree.{Tree, leaf, rev, seq, par, loop}
 use Rattle.vir_rules.specs.Claims.{Claim, of}
 use Rattle.vir_rules.specs.Derivations.{Derivable, AllDerivable, Fails}
 use Rattle.vir_rules.specs.Premises.{premises}
-use Rattle.vir_derive.specs.declared.marks.Marks.{Marks}
-use Rattle.vir_derive.specs.declared.marks.Marks.TheVariants.{Leaf, One', Two'}
-use Rattle.vir_derive.specs.declared.signature.Signature.{Signature}
-use Rattle.vir_derive.specs.Marks.{AreMarks}
-use Rattle.vir_derive.specs.Signatures.{has, Tells}
+use Rattle.vir_derive.specs.declared.props_tree.PropsTree.{PropsTree}
+use Rattle.vir_derive.specs.declared.props_tree.PropsTree.TheVariants.{Leaf, One', Two'}
+use Rattle.vir_derive.specs.declared.derivable_props.DerivableProps.{DerivableProps}
+use Rattle.vir_derive.specs.PropsTree.{IsPropsTreeOf}
+use Rattle.vir_derive.specs.DerivableProps.{has, Tells}
 use Rattle.vir_derive.proofs.Deriving.{derivable_by, fails_if_unfit, fails_if_not_all, fails_at_zero, underivable}
 use Rattle.vir_derive.proofs.Smaller.{measure, premise_smaller}
 use Rattle.vir_derive.proofs.Rows.{no_true}
@@ -69,19 +69,19 @@ true_by_decision : (b : Bool) → ((b ≡ true → ⊥) → ⊥) → b ≡ true
 true_by_decision true n = refl
 true_by_decision false n = absurd (n (λ h. no_true h))
 
-settled_signature : (s : Signature) (t : Tree) → ∥ Tells s t ∥₁ → Tells s t
-settled_signature s t kept q = (
+settled_props : (s : DerivableProps) (t : Tree) → ∥ Tells s t ∥₁ → Tells s t
+settled_props s t kept q = (
   (λ h. derivable_by_decision (of q t) (decide (of q t)) (λ n. ∥∥₁_elim kept ⊥_prop (λ tells. n ((tells q).0 h)))),
   (λ d. true_by_decision (has s q) (λ n. ∥∥₁_elim kept ⊥_prop (λ tells. n ((tells q).1 d)))),
 )
 
--- marks that are known to be a term's, whatever the derivations, are its marks
-pub settled_marks : (marks : Marks) (t : Tree) → ∥ AreMarks marks t ∥₁ → AreMarks marks t
-settled_marks (Leaf s) (leaf l) kept = settled_signature s (leaf l) kept
-settled_marks (One' s place part) (rev m) kept = (settled_signature s (rev m) (∥∥₁_map kept (λ a. a.0)), settled_marks part m (∥∥₁_map kept (λ a. a.1)))
-settled_marks (One' s place part) (loop k m) kept = (settled_signature s (loop k m) (∥∥₁_map kept (λ a. a.0)), settled_marks part m (∥∥₁_map kept (λ a. a.1)))
-settled_marks (Two' s place first place' second) (seq m n) kept =
-    (settled_signature s (seq m n) (∥∥₁_map kept (λ a. a.0)), settled_marks first m (∥∥₁_map kept (λ a. a.1)), settled_marks second n (∥∥₁_map kept (λ a. a.2)))
-settled_marks (Two' s place first place' second) (par m n) kept =
-    (settled_signature s (par m n) (∥∥₁_map kept (λ a. a.0)), settled_marks first m (∥∥₁_map kept (λ a. a.1)), settled_marks second n (∥∥₁_map kept (λ a. a.2)))
-settled_marks _ _ kept = absurd (∥∥₁_elim kept ⊥_prop (λ a. a))
+-- a tree that is known to be a term's, whatever the derivations, is its tree
+pub settled_tree : (props : PropsTree) (t : Tree) → ∥ IsPropsTreeOf props t ∥₁ → IsPropsTreeOf props t
+settled_tree (Leaf s) (leaf l) kept = settled_props s (leaf l) kept
+settled_tree (One' s place part) (rev m) kept = (settled_props s (rev m) (∥∥₁_map kept (λ a. a.0)), settled_tree part m (∥∥₁_map kept (λ a. a.1)))
+settled_tree (One' s place part) (loop k m) kept = (settled_props s (loop k m) (∥∥₁_map kept (λ a. a.0)), settled_tree part m (∥∥₁_map kept (λ a. a.1)))
+settled_tree (Two' s place first place' second) (seq m n) kept =
+    (settled_props s (seq m n) (∥∥₁_map kept (λ a. a.0)), settled_tree first m (∥∥₁_map kept (λ a. a.1)), settled_tree second n (∥∥₁_map kept (λ a. a.2)))
+settled_tree (Two' s place first place' second) (par m n) kept =
+    (settled_props s (par m n) (∥∥₁_map kept (λ a. a.0)), settled_tree first m (∥∥₁_map kept (λ a. a.1)), settled_tree second n (∥∥₁_map kept (λ a. a.2)))
+settled_tree _ _ kept = absurd (∥∥₁_elim kept ⊥_prop (λ a. a))

@@ -5,9 +5,11 @@ pub mod Smaller
 pub mod Numbers
 pub mod Serving
 pub mod Telling
-pub mod Marking
-pub mod PremiseMarks
+pub mod TreeLemmas
+pub mod PremiseProps
 pub mod Answering
 pub mod Deciding
 pub mod Closing
 pub mod RowRanges
+pub mod SignatureLemmas
+pub mod SignatureEquality

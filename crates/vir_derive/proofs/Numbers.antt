@@ -1,4 +1,4 @@
--- With which numbers a property is derivable of a term: a signature misses none.
+-- With which numbers a property is derivable of a term: what is seen misses none.
 use Rattle.std.proofs.Common.{◌≡◌, ◌↔◌, ℕ, nat_eq, Bool, true, false, if◌then◌else◌, List, ◌∷◌, map, Option, Some, None, refl, sym, ◌∙◌, ap, subst}
 use Rattle.std.specs.List.{list_all}
 use Rattle.std.proofs.lemmas.Bool.{eqb-true, eq-eqb}
@@ -19,9 +19,9 @@ use Rattle.vir_rules.specs.Derivations.{Derivable, AllDerivable}
 use Rattle.vir_rules.specs.Forms.{Form, leaf, seq, loop, form_of, first_part, is_shaped}
 use Rattle.vir_rules.specs.Premises.{letters_of, number_for, filled, row_of}
 use Rattle.vir_rules.specs.Table.{Rule, table}
-use Rattle.vir_derive.specs.declared.signature.Signature.{Signature}
+use Rattle.vir_derive.specs.declared.derivable_props.DerivableProps.{DerivableProps}
 use Rattle.vir_derive.specs.Numbers.{defers_candidate, rejects_candidate}
-use Rattle.vir_derive.specs.Signatures.{TellsWithin, is_number, is_composed}
+use Rattle.vir_derive.specs.DerivableProps.{TellsWithin, is_number, is_composed}
 use Rattle.vir_derive.proofs.Deriving.{IsServed, served}
 use Rattle.vir_derive.proofs.Rows.{no_true, premises_of_rule, row_passes, fitting, shaped}
 
@@ -152,14 +152,14 @@ is_that : (o : Option ℕ) (k : ℕ) → is_number o k ≡ true → o ≡ Some k
 is_that None k h = no_true h
 is_that (Some j) k h = ap Some (eqb-true j k h)
 
--- a signature of the first part has its other number of `defers`
-knows_first : (numbers : ℕ → Bool) (t : Tree) (first : Signature) (k : ℕ) → nat_eq k 1 ≡ false → numbers k ≡ true → (is_composed (form_of t) ≡ true → TellsWithin numbers first (first_part t)) → KnowsFirst t k first.defers_other
+-- what is derivable of the first part has its other number of `defers`
+knows_first : (numbers : ℕ → Bool) (t : Tree) (first : DerivableProps) (k : ℕ) → nat_eq k 1 ≡ false → numbers k ≡ true → (is_composed (form_of t) ≡ true → TellsWithin numbers first (first_part t)) → KnowsFirst t k first.defers_other
 knows_first numbers t first k n w tells e d =
     let composed : is_composed (form_of t) ≡ true = ap is_composed e in
     is_that first.defers_other k (sym (ap (λ b. if b then first.defers_one else is_number first.defers_other k) n) ∙ (tells composed (Defers k) w).1 d)
 
 -- another number of `defers` is the candidate
-pub defers_number : (numbers : ℕ → Bool) (t : Tree) (first : Signature) (k : ℕ) → nat_eq k 1 ≡ false → numbers k ≡ true → (is_composed (form_of t) ≡ true → TellsWithin numbers first (first_part t)) → Derivable (of (Defers k) t) → defers_candidate (form_of t) first.defers_other ≡ Some k
+pub defers_number : (numbers : ℕ → Bool) (t : Tree) (first : DerivableProps) (k : ℕ) → nat_eq k 1 ≡ false → numbers k ≡ true → (is_composed (form_of t) ≡ true → TellsWithin numbers first (first_part t)) → Derivable (of (Defers k) t) → defers_candidate (form_of t) first.defers_other ≡ Some k
 defers_number numbers t first k n w tells d =
     let s = serving (Defers k) t d in
     defers_by t k s.k first.defers_other (knows_first numbers t first k n w tells) n s.row.conclusion s.row.premises s.tied s.number_is s.derivable

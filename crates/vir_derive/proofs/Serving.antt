@@ -16,7 +16,7 @@ use Rattle.vir_rules.specs.Forms.{form_of, form_seen, first_part, second_part}
 use Rattle.vir_rules.specs.Premises.{Letters, filled, is_rule, letters_of, number_for, premises, row_of}
 use Rattle.vir_derive.specs.declared.sight.Sight.{Sight}
 use Rattle.vir_derive.specs.Numbers.{defers_candidate, rejects_candidate}
-use Rattle.vir_derive.specs.Signatures.{is_composed, IsTold}
+use Rattle.vir_derive.specs.DerivableProps.{is_composed, IsTold}
 use Rattle.vir_derive.specs.Sights.{Shows}
 use Rattle.vir_derive.proofs.Disjointness.{disjoint_if_opposed, opposed_if_disjoint}
 use Rattle.vir_derive.proofs.Deriving.{derivable_by, fails_if_unfit, fails_at, take_more_derivable, take_all_derivable}

@@ -20,7 +20,7 @@ use Rattle.vir_rules.specs.Forms.{Form, leaf, rev, seq, par, loop, form_of, firs
 use Rattle.vir_rules.specs.Premises.{Letters, letters_of, number_in, number_for, prop_for, filled, row_of, premises}
 use Rattle.vir_rules.specs.Props.{rank, number_of}
 use Rattle.vir_rules.specs.Table.{Rule, table}
-use Rattle.vir_derive.specs.Signatures.{is_composed, IsTold}
+use Rattle.vir_derive.specs.DerivableProps.{is_composed, IsTold}
 use Rattle.vir_derive.proofs.Disjointness.{AskOfTerms, asked_of_terms}
 use Rattle.vir_derive.proofs.Rows.{no_true, is_in_table, premises_of_rule, row_passes, IsFitting, fitting, shaped}
 

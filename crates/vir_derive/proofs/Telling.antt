@@ -1,4 +1,4 @@
--- A signature tells of a term, where each of its fields does.
+-- The derivable properties tell of a term, where each field does.
 use Rattle.std.proofs.Common.{◌≡◌, ◌↔◌, ℕ, nat_eq, Bool, true, false, ◌&&◌, if◌then◌else◌, Option, refl, sym, ◌∙◌, subst}
 use Rattle.std.proofs.lemmas.Bool.{eqb-true, eq-eqb}
 use Rattle.vir_term.specs.declared.leaf.Leaf.{Leaf}
@@ -8,9 +8,9 @@ use Rattle.vir_term.specs.Tree.{Tree, leaf}
 use Rattle.vir_rules.specs.Claims.{of}
 use Rattle.vir_rules.specs.Derivations.{Derivable}
 use Rattle.vir_rules.specs.Forms as form
-use Rattle.vir_derive.specs.declared.signature.Signature.{Signature}
+use Rattle.vir_derive.specs.declared.derivable_props.DerivableProps.{DerivableProps}
 use Rattle.vir_derive.specs.Numbers.{is_within, every}
-use Rattle.vir_derive.specs.Signatures.{is_number, Tells, TellsWithin, IsSeen, IsSeenWithin}
+use Rattle.vir_derive.specs.DerivableProps.{is_number, Tells, TellsWithin, IsSeen, IsSeenWithin}
 use Rattle.vir_derive.proofs.Numbers.{elim_number}
 use Rattle.vir_derive.proofs.Rows.{no_true}
 
@@ -27,7 +27,7 @@ elim_told : (t : Tree) (k : ℕ) (b one : Bool) → nat_eq k 1 ≡ b → TellsOf
 elim_told t k true one e tells = subst (λ j. TellsOf t (Elim j) one) (sym (eqb-true k 1 e)) tells
 elim_told t k false one e tells = ((λ h. no_true h), (λ d. sym e ∙ eq-eqb k 1 (elim_number t k d)))
 
-module _ (numbers : ℕ → Bool) (s : Signature) (t : Tree) (ne : TellsOf t Ne s.ne) (ea : TellsOf t Ea s.ea) (el : TellsOf t El s.el) (defers_one : TellsOf t (Defers 1) s.defers_one)
+module _ (numbers : ℕ → Bool) (s : DerivableProps) (t : Tree) (ne : TellsOf t Ne s.ne) (ea : TellsOf t Ea s.ea) (el : TellsOf t El s.el) (defers_one : TellsOf t (Defers 1) s.defers_one)
     (defers_other : (k : ℕ) → nat_eq k 1 ≡ false → numbers k ≡ true → TellsOf t (Defers k) (is_number s.defers_other k)) (rejects : (k : ℕ) → numbers k ≡ true → TellsOf t (Rejects k) (is_number s.rejects k))
     (elim_one : TellsOf t (Elim 1) s.elim_one) (nb : TellsOf t Nb s.nb) (decr : TellsOf t Decr s.decr) (dli : TellsOf t Dli s.dli) (imono : TellsOf t Imono s.imono)
     (dimono : TellsOf t Dimono s.dimono) (dmono : TellsOf t Dmono s.dmono) (mono : TellsOf t Mono s.mono) (condorcet : TellsOf t Cc s.cc) (dcc : TellsOf t Dcc s.dcc)
@@ -53,11 +53,11 @@ module _ (numbers : ℕ → Bool) (s : Signature) (t : Tree) (ne : TellsOf t Ne 
   tells_by_fields Neut w = neut
 
 -- of a module nothing is seen but itself
-pub module_seen : (l : Leaf) (first second : Signature) (opposed : Bool) → IsSeen (form.leaf l) first second opposed (leaf l)
+pub module_seen : (l : Leaf) (first second : DerivableProps) (opposed : Bool) → IsSeen (form.leaf l) first second opposed (leaf l)
 module_seen l first second opposed = record { form_is = refl; first_tells = λ h. no_true h; second_tells = λ h. no_true h; opposed_is = λ h. no_true h }
 
 -- with all numbers each property is told
-pub seen_every : (form : form.Form) (first second : Signature) (opposed : Bool) (t : Tree) → IsSeen form first second opposed t → IsSeenWithin every form first second opposed t
+pub seen_every : (form : form.Form) (first second : DerivableProps) (opposed : Bool) (t : Tree) → IsSeen form first second opposed t → IsSeenWithin every form first second opposed t
 seen_every form first second opposed t seen = record {
   form_is = seen.form_is;
   first_tells = λ h q w. seen.first_tells h q;
@@ -71,5 +71,5 @@ within_every (Rejects k) = refl
 within_every (Elim k) = refl
 within_every _ = refl
 
-pub tells_every : (s : Signature) (t : Tree) → TellsWithin every s t → Tells s t
+pub tells_every : (s : DerivableProps) (t : Tree) → TellsWithin every s t → Tells s t
 tells_every s t h q = h q (within_every q)

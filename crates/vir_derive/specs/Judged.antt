@@ -1,4 +1,4 @@
--- Judgements beside the marks of their terms.
+-- Judgements beside what is derivable of their terms.
 use Rattle.std.specs.Prelude.{◌≡◌, ℕ, List, Option, Some}
 use Rattle.vir_rules.specs.Claims.{Claim, claim}
 use Rattle.vir_rules.specs.Derivations.{AreFirst}
@@ -8,23 +8,23 @@ use Rattle.vir_rules.specs.declared.row.Need.TheVariants as need
 use Rattle.vir_rules.specs.declared.row.Part.TheVariants.{M, N}
 use Rattle.vir_rules.specs.Premises.{premises}
 use Rattle.vir_rules.specs.RuleTrees.{rule_trees, gathered}
-use Rattle.vir_derive.specs.declared.marked.MarkedJudgement.{MarkedJudgement}
-use Rattle.vir_derive.specs.declared.marks.Marks.{Marks}
-use Rattle.vir_derive.specs.Marks.{first_marks, second_marks, AreMarksFor}
+use Rattle.vir_derive.specs.declared.answer.JudgementWithProps.{JudgementWithProps}
+use Rattle.vir_derive.specs.declared.props_tree.PropsTree.{PropsTree}
+use Rattle.vir_derive.specs.PropsTree.{first_tree, second_tree, IsTreeFor}
 
 -- the claim of a judgement
-abbrev pub claimed : MarkedJudgement → Claim
-claimed marked = claim marked.judgement
+abbrev pub claim_of : JudgementWithProps → Claim
+claim_of judged = claim judged.judgement
 
--- The marks are those of the judgement's term.
-abbrev pub IsMarked : MarkedJudgement → Type 0
-IsMarked marked = AreMarksFor marked.marks.now (claimed marked)
+-- The tree is that of the judgement's term.
+abbrev pub HasItsProps : JudgementWithProps → Type 0
+HasItsProps judged = IsTreeFor judged.props.now (claim_of judged)
 
--- the marks of the part that a premise is about
-abbrev pub marks_for : Option Need → Marks → Marks
-marks_for (Some (need.Of wanted M)) marks = first_marks marks
-marks_for (Some (need.Of wanted N)) marks = second_marks marks
-marks_for _ marks = marks
+-- the tree of the part that a premise is about
+abbrev pub tree_for : Option Need → PropsTree → PropsTree
+tree_for (Some (need.Of wanted M)) props = first_tree props
+tree_for (Some (need.Of wanted N)) props = second_tree props
+tree_for _ props = props
 
 -- These are the first derivations of a rule's premises.
 abbrev pub AreChildren : ℕ → Claim → Children → Type 0

@@ -1,9 +1,11 @@
 pub mod Heads
 pub mod Numbers
-pub mod Signatures
+pub mod DerivableProps
 pub mod Sights
-pub mod Marks
+pub mod PropsTree
 pub mod Answers
 pub mod Judged
 pub mod Within
 pub mod Ranges
+pub mod KeptHeads
+pub mod Signatures

@@ -1,5 +1,6 @@
 -- With which numbers a property can be derivable of a term.
-use Rattle.std.specs.Prelude.{ℕ, Bool, true, Option, Some, None, IsTrue}
+use Rattle.std.specs.Prelude.{ℕ, Bool, true, nat_eq, List, Option, Some, None, IsTrue}
+use Rattle.std.specs.List.{list_any}
 use Rattle.vir_term.specs.declared.prop.Prop.{Prop}
 use Rattle.vir_term.specs.declared.prop.Prop.TheVariants.{Defers, Rejects, Elim}
 use Rattle.vir_rules.specs.declared.row.Need.{Need}
@@ -40,3 +41,7 @@ AreEnough numbers = IsTrue (numbers 1) × IsTrue (numbers 2)
 -- all numbers
 abbrev pub every : ℕ → Bool
 every k = true
+
+-- whether a number is listed
+abbrev pub is_listed : List ℕ → ℕ → Bool
+is_listed numbers k = list_any (λ j. nat_eq j k) numbers

@@ -1,75 +1,52 @@
--- What a signature says of a term, and what is seen of a term from which its signature follows.
-use Rattle.std.specs.Prelude.{◌≡◌, ◌↔◌, ℕ, Bool, true, false, ◌&&◌, nat_eq, if◌then◌else◌, Option, Some, None, IsTrue, ⊤}
+-- Signatures: what decides which of the properties with some numbers are derivable of what a term is composed into.
+use Rattle.std.specs.Prelude.{◌≡◌, ◌↔◌, ℕ, Bool, List, IsTrue, Option}
+use Rattle.vir_term.specs.declared.leaf.Leaf.{Leaf}
 use Rattle.vir_term.specs.declared.prop.Prop.{Prop}
-use Rattle.vir_term.specs.declared.prop.Prop.TheVariants as prop
 use Rattle.vir_term.specs.Tree.{Tree}
-use Rattle.vir_rules.specs.declared.row.Need.{Need}
-use Rattle.vir_rules.specs.declared.row.Need.TheVariants as need
-use Rattle.vir_rules.specs.declared.row.Part.TheVariants.{M, N, T}
 use Rattle.vir_rules.specs.Claims.{of}
 use Rattle.vir_rules.specs.Derivations.{Derivable}
-use Rattle.vir_rules.specs.Forms.{Form, leaf, form_of, first_part, second_part}
-use Rattle.vir_derive.specs.declared.signature.Signature.{Signature}
-use Rattle.vir_derive.specs.Heads.{are_opposed}
-use Rattle.vir_derive.specs.Numbers.{is_within}
+use Rattle.vir_rules.specs.Forms.{Form, form_of, first_part, second_part}
+use Rattle.vir_derive.specs.Heads.{head, are_opposed}
+use Rattle.vir_derive.specs.Numbers.{is_within, is_listed, AreEnough}
+use Rattle.vir_derive.specs.DerivableProps.{has, is_composed}
+use Rattle.vir_derive.specs.declared.term_signature.Signature.{Signature}
+use Rattle.vir_derive.specs.contracts.term_signature.SignaturePartialEq.TheImpl as signature_eq
+use Rattle.vir_derive.specs.KeptHeads.{head_seen}
 
--- whether there is a number, and it is this one
-abbrev pub is_number : Option ℕ → ℕ → Bool
-is_number None k = false
-is_number (Some j) k = nat_eq j k
+-- the numbers of a signature
+abbrev pub numbers_of : Signature → List ℕ
+numbers_of s = s.numbers.items
 
--- whether a property is in a signature
-abbrev pub has : Signature → Prop → Bool
-has signature prop.Ne = signature.ne
-has signature prop.Ea = signature.ea
-has signature prop.El = signature.el
-has signature (prop.Defers k) = if nat_eq k 1 then signature.defers_one else is_number signature.defers_other k
-has signature (prop.Rejects k) = is_number signature.rejects k
-has signature (prop.Elim k) = nat_eq k 1 && signature.elim_one
-has signature prop.Nb = signature.nb
-has signature prop.Decr = signature.decr
-has signature prop.Dli = signature.dli
-has signature prop.Imono = signature.imono
-has signature prop.Dimono = signature.dimono
-has signature prop.Dmono = signature.dmono
-has signature prop.Mono = signature.mono
-has signature prop.Cc = signature.cc
-has signature prop.Dcc = signature.dcc
-has signature prop.Cprog = signature.cprog
-has signature prop.Ccomp = signature.ccomp
-has signature prop.Neut = signature.neut
+-- whether a property is in it
+abbrev pub has_prop : Signature → Prop → Bool
+has_prop s q = has s.props q
 
--- A signature tells of a term: it has just the properties that are derivable, each with each number.
-abbrev pub Tells : Signature → Tree → Type 0
-Tells signature term = (q : Prop) → IsTrue (has signature q) ↔ Derivable (of q term)
+-- its head, where it has one
+abbrev pub head_of : Signature → Option Leaf
+head_of s = head_seen s.head
 
--- A signature tells of a term with some numbers: of the properties with these numbers it has just those that are derivable.
-abbrev pub TellsWithin : (ℕ → Bool) → Signature → Tree → Type 0
-TellsWithin numbers signature term = (q : Prop) → IsTrue (is_within numbers q) → IsTrue (has signature q) ↔ Derivable (of q term)
+-- It is the signature of a term for these numbers: its properties are those with no number or one of these that are derivable,
+-- and its head is the term's.
+pub record IsSignatureOf (numbers : List ℕ) (s : Signature) (t : Tree) : Type 0 where
+  pub numbers_are : numbers_of s ≡ numbers
+  pub enough : AreEnough (is_listed numbers)
+  pub has_are : (q : Prop) → IsTrue (has_prop s q) ↔ (IsTrue (is_within (is_listed numbers) q) × Derivable (of q t))
+  pub head_is : head_of s ≡ head t
 
--- whether a form has parts
-abbrev pub is_composed : Form → Bool
-is_composed (leaf l) = false
-is_composed _ = true
+-- Two signatures say the same: they have the same numbers, the same properties and the same head.
+pub record SayTheSame (s r : Signature) : Type 0 where
+  pub numbers_same : numbers_of s ≡ numbers_of r
+  pub props_same : (q : Prop) → has_prop s q ≡ has_prop r q
+  pub head_same : head_of s ≡ head_of r
 
--- This is seen of a term: its form, and where it has parts, what is derivable of each and whether their heads are opposed.
-pub record IsSeen (form : Form) (first second : Signature) (opposed : Bool) (term : Tree) : Type 0 where
-  pub form_is : form_of term ≡ form
-  pub first_tells : IsTrue (is_composed form) → Tells first (first_part term)
-  pub second_tells : IsTrue (is_composed form) → Tells second (second_part term)
-  pub opposed_is : IsTrue (is_composed form) → opposed ≡ are_opposed (first_part term) (second_part term)
+-- whether two signatures are equal by `==`
+abbrev pub are_equal : Signature → Signature → Bool
+are_equal = (signature_eq.ghosts).eq
 
--- The same, where of each part only the properties with these numbers are seen.
-pub record IsSeenWithin (numbers : ℕ → Bool) (form : Form) (first second : Signature) (opposed : Bool) (term : Tree) : Type 0 where
-  pub form_is : form_of term ≡ form
-  pub first_tells : IsTrue (is_composed form) → TellsWithin numbers first (first_part term)
-  pub second_tells : IsTrue (is_composed form) → TellsWithin numbers second (second_part term)
-  pub opposed_is : IsTrue (is_composed form) → opposed ≡ are_opposed (first_part term) (second_part term)
-
--- A premise on a term of this form can be told from what is seen of it: it is on the term, on a part that there is, or says that
--- the first and the second part are disjoint.
-abbrev pub IsTold : Form → Need → Type 0
-IsTold form (need.Of wanted T) = ⊤
-IsTold form (need.Of wanted _) = IsTrue (is_composed form)
-IsTold form (need.Disj M N) = IsTrue (is_composed form)
-IsTold form (need.Disj _ _) = ⊥
+-- It is the signature of each term of this form with this head that has parts of these signatures, for the same numbers, with heads
+-- opposed or not.
+abbrev pub JoinsParts : Form → Signature → Signature → Bool → Option Leaf → Signature → Type 0
+JoinsParts form first second opposed kept s =
+    (numbers : List ℕ) → (term : Tree) → form_of term ≡ form → IsTrue (is_composed form) →
+    IsSignatureOf numbers first (first_part term) → IsSignatureOf numbers second (second_part term) →
+    opposed ≡ are_opposed (first_part term) (second_part term) → kept ≡ head term → IsSignatureOf numbers s term

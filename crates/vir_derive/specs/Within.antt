@@ -7,7 +7,7 @@ use Rattle.vir_rules.specs.Derivations.{Derivable}
 use Rattle.vir_rules.specs.Forms.{form_of, first_part, second_part}
 pub use Rattle.vir_derive.specs.Numbers.{is_within}
 use Rattle.vir_derive.specs.Heads.{are_opposed}
-use Rattle.vir_derive.specs.Signatures.{is_composed}
+use Rattle.vir_derive.specs.DerivableProps.{is_composed}
 
 -- The same properties with these numbers are derivable of two terms.
 abbrev pub AreAlike : (ℕ → Bool) → Tree → Tree → Type 0

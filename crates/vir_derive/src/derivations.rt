@@ -4,11 +4,11 @@ ghost use Rattle.vir_term.specs.Tree.{tree};
 ghost use Rattle.vir_rules.specs.Claims.{claim, of};
 ghost use Rattle.vir_rules.specs.Derivations.{Derivable};
 ghost use Rattle.vir_derive.specs.Answers.{Answers};
-ghost use Rattle.vir_derive.specs.Marks.{AreMarks};
+ghost use Rattle.vir_derive.specs.PropsTree.{IsPropsTreeOf};
 
-use crate::marked::MarkedJudgement;
-use crate::marks::Marks;
-use crate::signature::Signature;
+use crate::answer::JudgementWithProps;
+use crate::props_tree::PropsTree;
+use crate::derivable_props::DerivableProps;
 use either::Either;
 use std::alloc::{AllocError, Global};
 use vir_rules::{Derivation, Judgement, Prop, Why};
@@ -19,8 +19,8 @@ use vir_term::{Leaf, Term};
 #[derive(Drop)]
 pub struct Derivations<'a> {
     pub term: &'a Term,
-    marks: Marks,
-    ghost marked: { ∥ AreMarks marks (tree term.now) ∥₁ },
+    props: PropsTree,
+    ghost its_props: { ∥ IsPropsTreeOf props (tree term.now) ∥₁ },
 }
 
 impl<'a> Derivations<'a> {
@@ -28,15 +28,15 @@ impl<'a> Derivations<'a> {
     pub fn of(alloc: Global, term: &'a Term) -> Result<Derivations<'a>, AllocError>
         ensures { IfOk result (λ derivations. derivations.term.now ≡ term.now) }
     {
-        let marks = Marks::of(alloc, term)?;
-        Ok(Derivations { term, marks })
+        let props = PropsTree::of(alloc, term)?;
+        Ok(Derivations { term, props })
     }
 
     /// Whether the term has a derivation of the property.
     pub fn derives(&self, prop: Prop) -> bool
         ensures { IsTrue result ↔ Derivable (of prop (tree self.now.term.now)) }
     {
-        self.marks.own().has(prop)
+        self.props.own().has(prop)
     }
 
     /// The first derivation of the property of the term, or the reasons against it: for each rule that fits
@@ -53,11 +53,11 @@ impl<'a> Derivations<'a> {
             prop,
             term: self.term,
         };
-        let marked = MarkedJudgement {
+        let judged = JudgementWithProps {
             judgement,
-            marks: &self.marks,
+            props: &self.props,
         };
-        marked.answer(alloc)
+        judged.answer(alloc)
     }
 }
 
@@ -73,13 +73,13 @@ pub fn derive<'a>(
     match judgement {
         Judgement::Of { prop, term } => Derivations::of(alloc, term)?.derive(alloc, prop),
         Judgement::Disj { .. } => {
-            // Disjointness is told by heads alone: these marks are of no term.
-            let marks = Marks::Leaf(Signature::of_leaf(&Leaf::Elect));
-            let marked = MarkedJudgement {
+            // Disjointness is told by heads alone: this tree is of no term.
+            let props = PropsTree::Leaf(DerivableProps::of_leaf(&Leaf::Elect));
+            let judged = JudgementWithProps {
                 judgement,
-                marks: &marks,
+                props: &props,
             };
-            marked.answer(alloc)
+            judged.answer(alloc)
         }
     }
 }

@@ -1,4 +1,5 @@
-ghost use Rattle.std.specs.Prelude.{◌≡◌, ◌↔◌, ℕ, Bool, false, nat_eq, IsTrue, MatchBool};
+// What is derivable of a term, told by the rows of the table from all that they see of it.
+ghost use Rattle.std.specs.Prelude.{◌≡◌, ◌≢◌, ◌↔◌, ℕ, Bool, false, Some, nat_eq, IsTrue, MatchBool};
 ghost use Rattle.vir_term.specs.Tree.{Tree};
 ghost use Rattle.vir_term.specs.declared.prop.Prop.TheVariants as prop;
 ghost use Rattle.vir_rules.specs.Claims.{of};
@@ -8,9 +9,9 @@ ghost use Rattle.vir_rules.specs.Premises.{filled, is_rule, letters_of};
 ghost use Rattle.vir_derive.specs.Numbers.{defers_candidate, rejects_candidate, is_within, is_need_within, AreEnough};
 ghost use Rattle.vir_derive.specs.Ranges.{first_row, end_row, later_row, later_end};
 ghost use Rattle.vir_derive.specs.Sights.{Shows};
-ghost use Rattle.vir_derive.specs.Signatures.{is_number, IsTold};
+ghost use Rattle.vir_derive.specs.DerivableProps.{is_number, IsTold};
 
-use crate::signature::Signature;
+use crate::derivable_props::DerivableProps;
 use vir_rules::{Form, Need, Part, Prop, RuleId, need_at, need_count, number_for, prop_for};
 use vir_term::Leaf;
 
@@ -19,8 +20,8 @@ use vir_term::Leaf;
 #[derive(Clone, Copy)]
 pub(crate) struct Sight<'a> {
     pub(crate) form: Form<'a>,
-    pub(crate) first: Signature,
-    pub(crate) second: Signature,
+    pub(crate) first: DerivableProps,
+    pub(crate) second: DerivableProps,
     pub(crate) opposed: bool,
 }
 
@@ -154,7 +155,8 @@ impl<'a> Sight<'a> {
 
     // The number, not 1, with which `defers` is derivable.
     pub(crate) fn defers_other(self) -> Option<u32>
-        ensures { (numbers : ℕ → Bool) → AreEnough numbers → (term : Tree) → Shows numbers self.entry term → (k : ℕ) → nat_eq k 1 ≡ false → IsTrue (numbers k) → IsTrue (is_number result k) ↔ Derivable (of (prop.Defers k) term) }
+        ensures other { result ≢ Some 1 }
+        ensures derivable { (numbers : ℕ → Bool) → AreEnough numbers → (term : Tree) → Shows numbers self.entry term → (k : ℕ) → nat_eq k 1 ≡ false → IsTrue (numbers k) → IsTrue (is_number result k) ↔ Derivable (of (prop.Defers k) term) }
     {
         let k = self.defers_candidate()?;
         if k == 1 || !self.derives(Prop::Defers(k)) {

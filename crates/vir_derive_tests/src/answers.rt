@@ -1,21 +1,11 @@
 // First derivations, and reasons, of small rules that are read from their texts.
+use crate::texts::term_of;
 use either::Either;
 use std::alloc::Global;
 use std::process::Abort;
-use vir_book::read_book;
-use vir_derive::{Derivations, Marks, Signature, are_opposed, derive};
-use vir_read::{TextError, read_raw, tokens, type_term};
+use vir_derive::{DerivableProps, Derivations, PropsTree, are_opposed, derive};
+use vir_read::TextError;
 use vir_rules::{Derivation, Form, Judgement, Prop, Why};
-use vir_term::Term;
-
-// The term of a text.
-fn term_of(alloc: Global, text: &str) -> Result<Term, TextError> {
-    let text = text.as_bytes();
-    let names = read_book(alloc, b"known = defer;")?;
-    let list = tokens(alloc, text)?;
-    let end = read_raw(alloc, text, &list, 0)?;
-    type_term(alloc, text, &end.raw, &names)
-}
 
 // A rule, a property, and the first derivation: its rule, and those of its children.
 const DERIVED: &[(&str, Prop, &str, &[&str])] = &[
@@ -133,18 +123,19 @@ fn terms_with_opposed_heads_are_disjoint(rt: HostRuntime) -> Result<(), TextErro
 }
 
 #[test]
-fn each_part_has_a_signature(rt: HostRuntime) -> Result<(), TextError> {
+fn each_part_has_its_properties(rt: HostRuntime) -> Result<(), TextError> {
     let term = term_of(rt.alloc(), "seq(pass(2),elect)")?;
-    let marks = Marks::of(rt.alloc(), &term)?;
-    let (first, second) = (*marks.first().own(), *marks.second().own());
+    let props = PropsTree::of(rt.alloc(), &term)?;
+    let (first, second) = (*props.first().own(), *props.second().own());
     assert!(rt; first.has(Prop::Defers(2)) && !first.has(Prop::Defers(1)));
     assert!(rt; second.has(Prop::Ea));
-    assert!(rt; marks.own().has(Prop::El) && !marks.own().has(Prop::Ne));
-    assert!(rt; Signature::of_parts(Form::of(&term), first, second, false) == *marks.own());
+    assert!(rt; props.own().has(Prop::El) && !props.own().has(Prop::Ne));
+    assert!(rt; DerivableProps::of_parts(Form::of(&term), first, second, false) == *props.own());
     Ok(())
 }
 
 #[test]
-fn a_law_can_be_called() {
+fn the_laws_can_be_called() {
     vir_derive::laws::numbers_close();
+    vir_derive::laws::equal_signatures_say_the_same();
 }

@@ -1,5 +1,5 @@
-//! The tests of `vir_derive`, in a crate of their own: first derivations of small rules, and reasons
-//! against others.
+//! The tests of `vir_derive`, in a crate of their own: first derivations of small rules, reasons against
+//! others, and signatures.
 //!
 //! There is no code but the tests, so the crate has no contract, and `vir_derive` is proved without them.
 //! It stands on `vir_derive` and `vir_rules`, on `vir_term`, `vir_read` and `vir_book` for the terms, and on
@@ -8,3 +8,7 @@
 
 #[cfg(test)]
 mod answers;
+#[cfg(test)]
+mod signatures;
+#[cfg(test)]
+mod texts;

@@ -2,7 +2,7 @@ use Rattle.std.proofs.Common.{◌≡◌, ◌↔◌, ℕ, true, Option, sym, subs
 use Rattle.vir_term.specs.declared.prop.Prop.TheVariants as prop
 use Rattle.vir_rules.specs.Claims.{of}
 use Rattle.vir_rules.specs.Derivations.{Derivable}
-use Rattle.vir_derive.specs.Signatures.{is_number}
+use Rattle.vir_derive.specs.DerivableProps.{is_number}
 use Rattle.vir_derive.proofs.Numbers.{no_candidate, candidate_fails, candidate_serves}
 use Rattle.vir_derive.proofs.Serving.{not_derivable, rejects_seen}
 use Rattle.vir_derive.proofs.sight.Sight.rejects.Goals as goal
