@@ -1,5 +1,6 @@
 -- Equal signatures say the same, and signatures that say the same are equal.
-use Rattle.std.proofs.Common.{◌≡◌, ◌≢◌, ◌⊎◌, inl, inr, ℕ, zero, suc, nat_eq, Bool, true, false, ◌&&◌, if◌then◌else◌, List, [], ◌∷◌, Option, Some, None, refl, sym, ◌∙◌, ap, subst}
+use Rattle.std.proofs.Common.{◌≡◌, ◌≢◌, ◌⊎◌, inl, inr, ℕ, zero, suc, nat_eq, Bool, true, false, ◌&&◌, if◌then◌else◌}
+use Rattle.std.proofs.Common.{List, [], ◌∷◌, Option, Some, None, refl, sym, ◌∙◌, ap, subst}
 use Rattle.std.proofs.lemmas.Bool.{and_parts, eqb-true, eq-eqb}
 use mathlib.Core.Bool.{beq}
 use Rattle.std.specs.Option.{option_eq}
@@ -16,7 +17,7 @@ use Rattle.vir_derive.specs.declared.kept_head.Head.{Head}
 use Rattle.vir_derive.specs.contracts.kept_head.HeadPartialEq.TheImpl as head_eq
 use Rattle.vir_derive.specs.declared.term_signature.Signature.{Signature}
 use Rattle.vir_derive.specs.KeptHeads.{module_of, head_seen}
-use Rattle.vir_derive.specs.Signatures.{has_prop, IsSignatureOf, SayTheSame, are_equal}
+use Rattle.vir_derive.specs.Signatures.{IsSignatureOf, SayTheSame, are_equal}
 use Rattle.vir_derive.proofs.SignatureLemmas.{copied}
 
 same_props : DerivableProps → DerivableProps → Bool
@@ -57,12 +58,17 @@ number_same (Some j) None e = no_true e
 
 list_same : (xs ys : List ℕ) → pointwise nat_eq xs ys ≡ true → xs ≡ ys
 list_same [] [] e = refl
-list_same (x ∷ xs) (y ∷ ys) e = let p = and_parts (nat_eq x y) (pointwise nat_eq xs ys) e in ap (λ z. z ∷ xs) (eqb-true x y p.0) ∙ ap (λ zs. y ∷ zs) (list_same xs ys p.1)
+list_same (x ∷ xs) (y ∷ ys) e = let p = and_parts (nat_eq x y) (pointwise nat_eq xs ys) e
+    in ap (λ z. z ∷ xs) (eqb-true x y p.0) ∙ ap (λ zs. y ∷ zs) (list_same xs ys p.1)
 list_same [] (y ∷ ys) e = no_true e
 list_same (x ∷ xs) [] e = no_true e
 
 answers : DerivableProps → DerivableProps → List Bool
-answers s r = beq s.ne r.ne ∷ beq s.ea r.ea ∷ beq s.el r.el ∷ beq s.defers_one r.defers_one ∷ option_eq nat_eq s.defers_other r.defers_other ∷ option_eq nat_eq s.rejects r.rejects ∷ beq s.elim_one r.elim_one ∷ beq s.nb r.nb ∷ beq s.decr r.decr ∷ beq s.dli r.dli ∷ beq s.imono r.imono ∷ beq s.dimono r.dimono ∷ beq s.dmono r.dmono ∷ beq s.mono r.mono ∷ beq s.cc r.cc ∷ beq s.dcc r.dcc ∷ beq s.cprog r.cprog ∷ beq s.ccomp r.ccomp ∷ beq s.neut r.neut ∷ []
+answers s r = beq s.ne r.ne ∷ beq s.ea r.ea ∷ beq s.el r.el ∷ beq s.defers_one r.defers_one
+    ∷ option_eq nat_eq s.defers_other r.defers_other ∷ option_eq nat_eq s.rejects r.rejects ∷ beq s.elim_one r.elim_one
+    ∷ beq s.nb r.nb ∷ beq s.decr r.decr ∷ beq s.dli r.dli ∷ beq s.imono r.imono ∷ beq s.dimono r.dimono
+    ∷ beq s.dmono r.dmono ∷ beq s.mono r.mono ∷ beq s.cc r.cc ∷ beq s.dcc r.dcc ∷ beq s.cprog r.cprog
+    ∷ beq s.ccomp r.ccomp ∷ beq s.neut r.neut ∷ []
 
 module _ (s r : DerivableProps) (e : same_props s r ≡ true) where
   all_yes : and_all (answers s r) ≡ true
@@ -145,7 +151,8 @@ module _ (s r : DerivableProps) (e : same_props s r ≡ true) where
   unfolding answers
   neut_same = bool_same s.neut r.neut (nth_true (answers s r) 18 all_yes)
 
-  defers_same : (b : Bool) (k : ℕ) → (if b then s.defers_one else is_number s.defers_other k) ≡ (if b then r.defers_one else is_number r.defers_other k)
+  defers_same : (b : Bool) (k : ℕ) → (if b then s.defers_one else is_number s.defers_other k)
+      ≡ (if b then r.defers_one else is_number r.defers_other k)
   defers_same true k = defers_one_same
   defers_same false k = ap (λ o. is_number o k) defers_other_same
 
@@ -190,12 +197,18 @@ heads_same (Some s) None e = no_true e
 pub equal_say_the_same : (s r : Signature) → are_equal s r ≡ true → SayTheSame s r
 unfolding same_props same_head
 equal_say_the_same s r e =
-    let p = and_parts (pointwise nat_eq s.numbers.items r.numbers.items) (same_props s.props r.props && option_eq same_head s.head r.head) e in
+    let p = and_parts (pointwise nat_eq s.numbers.items r.numbers.items) (same_props s.props r.props
+    && option_eq same_head s.head r.head) e in
     let q = and_parts (same_props s.props r.props) (option_eq same_head s.head r.head) p.1 in
-    record { numbers_same = list_same s.numbers.items r.numbers.items p.0; props_same = has_same s.props r.props q.0; head_same = heads_same s.head r.head q.1 }
+    record {
+      numbers_same = list_same s.numbers.items r.numbers.items p.0;
+      props_same = has_same s.props r.props q.0;
+      head_same = heads_same s.head r.head q.1;
+    }
 
 -- equal signatures are signatures of the same terms
-pub equal_signs : (numbers : List ℕ) (s r : Signature) (t : Tree) → are_equal s r ≡ true → IsSignatureOf numbers s t → IsSignatureOf numbers r t
+pub equal_signs : (numbers : List ℕ) (s r : Signature) (t : Tree) → are_equal s r ≡ true → IsSignatureOf numbers s t
+    → IsSignatureOf numbers r t
 equal_signs numbers s r t e h =
     let same = equal_say_the_same s r e in
     copied numbers s r t (sym same.numbers_same) (λ q. sym (same.props_same q)) (sym same.head_same) h
@@ -221,7 +234,8 @@ list_equal : (xs ys : List ℕ) → xs ≡ ys → pointwise nat_eq xs ys ≡ tru
 list_equal xs ys e = subst (λ zs. pointwise nat_eq xs zs ≡ true) e (list_itself xs)
 
 -- numbers that pass the same tests are one, where neither is 1 or 1 is tested too
-number_equal : (a b : Option ℕ) → ((k : ℕ) → (a ≡ Some k) ⊎ (b ≡ Some k) → is_number a k ≡ is_number b k) → option_eq nat_eq a b ≡ true
+number_equal : (a b : Option ℕ) → ((k : ℕ) → (a ≡ Some k) ⊎ (b ≡ Some k) → is_number a k ≡ is_number b k)
+    → option_eq nat_eq a b ≡ true
 number_equal None None same = refl
 number_equal (Some j) None same = sym (same j (inl refl)) ∙ eq-eqb j j refl
 number_equal None (Some k) same = same k (inr refl) ∙ eq-eqb k k refl
@@ -236,23 +250,32 @@ not_one a k other e false h = h
 not_one a k other e true h = absurd (other (e ∙ ap (λ j. Some j) (eqb-true k 1 h)))
 
 module _ (s r : DerivableProps) (h : (q : Prop) → has s q ≡ has r q) where
-  other_tested : (k : ℕ) → (s.defers_other ≡ Some k) ⊎ (r.defers_other ≡ Some k) → is_number s.defers_other k ≡ is_number r.defers_other k
-  other_tested k (inl e) = chosen_at (nat_eq k 1) s.defers_one (is_number s.defers_other k) r.defers_one (is_number r.defers_other k) (not_one s.defers_other k s.other e (nat_eq k 1) refl) (h (prop.Defers k))
-  other_tested k (inr e) = chosen_at (nat_eq k 1) s.defers_one (is_number s.defers_other k) r.defers_one (is_number r.defers_other k) (not_one r.defers_other k r.other e (nat_eq k 1) refl) (h (prop.Defers k))
+  other_tested : (k : ℕ) → (s.defers_other ≡ Some k) ⊎ (r.defers_other ≡ Some k) → is_number s.defers_other k
+      ≡ is_number r.defers_other k
+  other_tested k (inl e) = chosen_at (nat_eq k 1) s.defers_one (is_number s.defers_other k) r.defers_one
+      (is_number r.defers_other k) (not_one s.defers_other k s.other e (nat_eq k 1) refl) (h (prop.Defers k))
+  other_tested k (inr e) = chosen_at (nat_eq k 1) s.defers_one (is_number s.defers_other k) r.defers_one
+      (is_number r.defers_other k) (not_one r.defers_other k r.other e (nat_eq k 1) refl) (h (prop.Defers k))
 
   props_equal : same_props s r ≡ true
   unfolding same_props
   props_equal =
-      both _ _ (beq_same s.ne r.ne (h prop.Ne)) (both _ _ (beq_same s.ea r.ea (h prop.Ea)) (both _ _ (beq_same s.el r.el (h prop.El)) (
-      both _ _ (beq_same s.defers_one r.defers_one (h (prop.Defers 1))) (both _ _ (number_equal s.defers_other r.defers_other other_tested) (
-      both _ _ (number_equal s.rejects r.rejects (λ k _. h (prop.Rejects k))) (both _ _ (beq_same s.elim_one r.elim_one (h (prop.Elim 1))) (
-      both _ _ (beq_same s.nb r.nb (h prop.Nb)) (both _ _ (beq_same s.decr r.decr (h prop.Decr)) (both _ _ (beq_same s.dli r.dli (h prop.Dli)) (
+      both _ _ (beq_same s.ne r.ne (h prop.Ne)) (both _ _ (beq_same s.ea r.ea (h prop.Ea))
+      (both _ _ (beq_same s.el r.el (h prop.El)) (
+      both _ _ (beq_same s.defers_one r.defers_one (h (prop.Defers 1)))
+      (both _ _ (number_equal s.defers_other r.defers_other other_tested) (
+      both _ _ (number_equal s.rejects r.rejects (λ k _. h (prop.Rejects k)))
+      (both _ _ (beq_same s.elim_one r.elim_one (h (prop.Elim 1))) (
+      both _ _ (beq_same s.nb r.nb (h prop.Nb)) (both _ _ (beq_same s.decr r.decr (h prop.Decr))
+      (both _ _ (beq_same s.dli r.dli (h prop.Dli)) (
       both _ _ (beq_same s.imono r.imono (h prop.Imono)) (both _ _ (beq_same s.dimono r.dimono (h prop.Dimono)) (
       both _ _ (beq_same s.dmono r.dmono (h prop.Dmono)) (both _ _ (beq_same s.mono r.mono (h prop.Mono)) (
       both _ _ (beq_same s.cc r.cc (h prop.Cc)) (both _ _ (beq_same s.dcc r.dcc (h prop.Dcc)) (
-      both _ _ (beq_same s.cprog r.cprog (h prop.Cprog)) (both _ _ (beq_same s.ccomp r.ccomp (h prop.Ccomp)) (beq_same s.neut r.neut (h prop.Neut)))))))))))))))))))
+      both _ _ (beq_same s.cprog r.cprog (h prop.Cprog)) (both _ _ (beq_same s.ccomp r.ccomp (h prop.Ccomp))
+      (beq_same s.neut r.neut (h prop.Neut)))))))))))))))))))
 
-module_equal : (p q : Bool) (k j : ℕ) (xs ys : List ℕ) → (if p then PassFirst k xs else DropFirst k xs) ≡ (if q then PassFirst j ys else DropFirst j ys) → (beq p q && (nat_eq k j && pointwise nat_eq xs ys)) ≡ true
+module_equal : (p q : Bool) (k j : ℕ) (xs ys : List ℕ) → (if p then PassFirst k xs else DropFirst k xs)
+    ≡ (if q then PassFirst j ys else DropFirst j ys) → (beq p q && (nat_eq k j && pointwise nat_eq xs ys)) ≡ true
 module_equal true true k j xs ys e = both _ _ refl (both _ _ (eq-eqb k j cc) (list_equal xs ys cc))
 module_equal false false k j xs ys e = both _ _ refl (both _ _ (eq-eqb k j cc) (list_equal xs ys cc))
 module_equal true false k j xs ys e = cc

@@ -1,5 +1,6 @@
 -- What is derivable of a term, and what is seen of a term from which this follows.
-use Rattle.std.specs.Prelude.{◌≡◌, ◌↔◌, ℕ, Bool, true, false, ◌&&◌, nat_eq, if◌then◌else◌, Option, Some, None, IsTrue, ⊤}
+use Rattle.std.specs.Prelude.{◌≡◌, ◌↔◌, ℕ, Bool, true, false, ◌&&◌, nat_eq, if◌then◌else◌, Option, Some, None, IsTrue}
+use Rattle.std.specs.Prelude.{⊤}
 use Rattle.vir_term.specs.declared.prop.Prop.{Prop}
 use Rattle.vir_term.specs.declared.prop.Prop.TheVariants as prop
 use Rattle.vir_term.specs.Tree.{Tree}
@@ -45,14 +46,16 @@ Tells props term = (q : Prop) → IsTrue (has props q) ↔ Derivable (of q term)
 
 -- They tell of a term with some numbers: of the properties with these numbers they are just those that are derivable.
 abbrev pub TellsWithin : (ℕ → Bool) → DerivableProps → Tree → Type 0
-TellsWithin numbers props term = (q : Prop) → IsTrue (is_within numbers q) → IsTrue (has props q) ↔ Derivable (of q term)
+TellsWithin numbers props term = (q : Prop) → IsTrue (is_within numbers q) → IsTrue (has props q)
+    ↔ Derivable (of q term)
 
 -- whether a form has parts
 abbrev pub is_composed : Form → Bool
 is_composed (leaf l) = false
 is_composed _ = true
 
--- This is seen of a term: its form, and where it has parts, what is derivable of each and whether their heads are opposed.
+-- This is seen of a term: its form, and where it has parts, what is derivable of each and whether their heads are
+-- opposed.
 pub record IsSeen (form : Form) (first second : DerivableProps) (opposed : Bool) (term : Tree) : Type 0 where
   pub form_is : form_of term ≡ form
   pub first_tells : IsTrue (is_composed form) → Tells first (first_part term)
@@ -60,13 +63,15 @@ pub record IsSeen (form : Form) (first second : DerivableProps) (opposed : Bool)
   pub opposed_is : IsTrue (is_composed form) → opposed ≡ are_opposed (first_part term) (second_part term)
 
 -- The same, where of each part only the properties with these numbers are seen.
-pub record IsSeenWithin (numbers : ℕ → Bool) (form : Form) (first second : DerivableProps) (opposed : Bool) (term : Tree) : Type 0 where
+pub record IsSeenWithin (numbers : ℕ → Bool) (form : Form) (first second : DerivableProps) (opposed : Bool)
+    (term : Tree) : Type 0 where
   pub form_is : form_of term ≡ form
   pub first_tells : IsTrue (is_composed form) → TellsWithin numbers first (first_part term)
   pub second_tells : IsTrue (is_composed form) → TellsWithin numbers second (second_part term)
   pub opposed_is : IsTrue (is_composed form) → opposed ≡ are_opposed (first_part term) (second_part term)
 
--- A premise on a term of this form can be told from what is seen of it: it is on the term, on a part that there is, or says that
+-- A premise on a term of this form can be told from what is seen of it: it is on the term, on a part that there is, or
+-- says that
 -- the first and the second part are disjoint.
 abbrev pub IsTold : Form → Need → Type 0
 IsTold form (need.Of wanted T) = ⊤

@@ -28,4 +28,5 @@ tree_for _ props = props
 
 -- These are the first derivations of a rule's premises.
 abbrev pub AreChildren : ℕ → Claim → Children → Type 0
-AreChildren rule c children = (needed : List Claim) × (premises rule c ≡ Some needed) × AreFirst (gathered (rule_trees children)) needed
+AreChildren rule c children = (needed : List Claim) × (premises rule c ≡ Some needed)
+    × AreFirst (gathered (rule_trees children)) needed

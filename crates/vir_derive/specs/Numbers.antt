@@ -10,7 +10,8 @@ use Rattle.vir_term.specs.declared.leaf.Leaf.TheVariants.{PassFirst, DropFirst}
 use Rattle.vir_term.specs.Tree.{number_of}
 use Rattle.vir_rules.specs.Forms.{Form, leaf, seq, loop}
 
--- the one number, not 1, with which `defers` can be derivable of a term of this form, where it is so of the first part with this one
+-- the one number, not 1, with which `defers` can be derivable of a term of this form, where it is so of the first part
+-- with this one
 abbrev pub defers_candidate : Form → Option ℕ → Option ℕ
 defers_candidate (leaf (PassFirst k order)) first = Some k
 defers_candidate (loop k) first = Some (number_of k)

@@ -33,8 +33,10 @@ abbrev pub IsPropsTreeOf : PropsTree → Tree → Type 0
 IsPropsTreeOf (Leaf own) (tree.leaf l) = Tells own (tree.leaf l)
 IsPropsTreeOf (One' own place part) (tree.rev m) = Tells own (tree.rev m) × IsPropsTreeOf part m
 IsPropsTreeOf (One' own place part) (tree.loop k m) = Tells own (tree.loop k m) × IsPropsTreeOf part m
-IsPropsTreeOf (Two' own place first place' second) (tree.seq m n) = Tells own (tree.seq m n) × IsPropsTreeOf first m × IsPropsTreeOf second n
-IsPropsTreeOf (Two' own place first place' second) (tree.par m n) = Tells own (tree.par m n) × IsPropsTreeOf first m × IsPropsTreeOf second n
+IsPropsTreeOf (Two' own place first place' second) (tree.seq m n) = Tells own (tree.seq m n) × IsPropsTreeOf first m
+    × IsPropsTreeOf second n
+IsPropsTreeOf (Two' own place first place' second) (tree.par m n) = Tells own (tree.par m n) × IsPropsTreeOf first m
+    × IsPropsTreeOf second n
 IsPropsTreeOf _ _ = ⊥
 
 -- This is the tree of the term that a claim is about. Where it is about two terms, none is needed.
@@ -55,9 +57,12 @@ has_two_parts _ = false
 
 -- Of each term of this form that has a part of this tree, that is the tree.
 abbrev pub JoinsOne : Form → PropsTree → PropsTree → Type 0
-JoinsOne form part props = (term : Tree) → form_of term ≡ form → IsTrue (has_one_part form) → IsPropsTreeOf part (first_part term) → IsPropsTreeOf props term
+JoinsOne form part props = (term : Tree) → form_of term ≡ form → IsTrue (has_one_part form)
+    → IsPropsTreeOf part (first_part term) → IsPropsTreeOf props term
 
 -- Of each term of this form that has parts of these trees, opposed or not, that is the tree.
 abbrev pub JoinsTwo : Form → PropsTree → PropsTree → Bool → PropsTree → Type 0
 JoinsTwo form first second opposed props =
-    (term : Tree) → form_of term ≡ form → IsTrue (has_two_parts form) → opposed ≡ are_opposed (first_part term) (second_part term) → IsPropsTreeOf first (first_part term) → IsPropsTreeOf second (second_part term) → IsPropsTreeOf props term
+    (term : Tree) → form_of term ≡ form → IsTrue (has_two_parts form) → opposed ≡ are_opposed (first_part term)
+    (second_part term) → IsPropsTreeOf first (first_part term) → IsPropsTreeOf second (second_part term)
+    → IsPropsTreeOf props term

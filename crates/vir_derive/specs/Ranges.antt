@@ -1,7 +1,9 @@
--- Which rows of the table conclude a property: they stand together in two places, in the order of the properties in the first, and behind it in the second.
+-- Which rows of the table conclude a property: they stand together in two places, in the order of the properties in the
+-- first, and behind it in the second.
 use Rattle.std.specs.Prelude.{ℕ, suc, List, [], ◌∷◌, slice_index}
 use Rattle.vir_term.specs.declared.prop.Prop.{Prop}
 use Rattle.vir_rules.specs.Props.{rank}
+use Rattle.vir_rules.specs.declared.rule_id.TheConstants.RuleId.{COUNT}
 
 -- how many rows stand before those of each rank, and behind the last ones
 abbrev pub row_starts : List ℕ
@@ -9,11 +11,13 @@ row_starts = 0 ∷ 0 ∷ 5 ∷ 9 ∷ 15 ∷ 20 ∷ 21 ∷ 23 ∷ 31 ∷ 36 ∷ 4
 
 -- how many rows stand before the later ones of each rank; all of them, where there are none
 abbrev pub later_starts : List ℕ
-later_starts = 95 ∷ 88 ∷ 95 ∷ 95 ∷ 89 ∷ 95 ∷ 95 ∷ 91 ∷ 95 ∷ 92 ∷ 95 ∷ 95 ∷ 95 ∷ 95 ∷ 95 ∷ 93 ∷ 95 ∷ 94 ∷ 82 ∷ []
+later_starts = COUNT ∷ 88 ∷ COUNT ∷ COUNT ∷ 89 ∷ COUNT ∷ COUNT ∷ 91 ∷ COUNT ∷ 92 ∷ COUNT ∷ COUNT ∷ COUNT ∷ COUNT ∷ COUNT
+    ∷ 93 ∷ COUNT ∷ 94 ∷ 82 ∷ []
 
 -- how many rows stand up to the last one of each rank
 abbrev pub later_ends : List ℕ
-later_ends = 95 ∷ 89 ∷ 95 ∷ 95 ∷ 91 ∷ 95 ∷ 95 ∷ 92 ∷ 95 ∷ 93 ∷ 95 ∷ 95 ∷ 95 ∷ 95 ∷ 95 ∷ 94 ∷ 95 ∷ 95 ∷ 88 ∷ []
+later_ends = COUNT ∷ 89 ∷ COUNT ∷ COUNT ∷ 91 ∷ COUNT ∷ COUNT ∷ 92 ∷ COUNT ∷ 93 ∷ COUNT ∷ COUNT ∷ COUNT ∷ COUNT ∷ COUNT
+    ∷ 94 ∷ COUNT ∷ COUNT ∷ 88 ∷ []
 
 -- how many rows stand before those that conclude a property
 abbrev pub first_row : Prop → ℕ

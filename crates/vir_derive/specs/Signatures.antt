@@ -25,7 +25,8 @@ has_prop s q = has s.props q
 abbrev pub head_of : Signature → Option Leaf
 head_of s = head_seen s.head
 
--- It is the signature of a term for these numbers: its properties are those with no number or one of these that are derivable,
+-- It is the signature of a term for these numbers: its properties are those with no number or one of these that are
+-- derivable,
 -- and its head is the term's.
 pub record IsSignatureOf (numbers : List ℕ) (s : Signature) (t : Tree) : Type 0 where
   pub numbers_are : numbers_of s ≡ numbers
@@ -43,7 +44,8 @@ pub record SayTheSame (s r : Signature) : Type 0 where
 abbrev pub are_equal : Signature → Signature → Bool
 are_equal = (signature_eq.ghosts).eq
 
--- It is the signature of each term of this form with this head that has parts of these signatures, for the same numbers, with heads
+-- It is the signature of each term of this form with this head that has parts of these signatures, for the same
+-- numbers, with heads
 -- opposed or not.
 abbrev pub JoinsParts : Form → Signature → Signature → Bool → Option Leaf → Signature → Type 0
 JoinsParts form first second opposed kept s =

@@ -13,9 +13,11 @@ use Rattle.vir_derive.specs.DerivableProps.{is_composed}
 abbrev pub AreAlike : (ℕ → Bool) → Tree → Tree → Type 0
 AreAlike numbers t u = (q : Prop) → IsTrue (is_within numbers q) → Derivable (of q t) ↔ Derivable (of q u)
 
--- Two terms have one form, and where it has parts, the parts are alike, and their heads are opposed in both or in neither.
+-- Two terms have one form, and where it has parts, the parts are alike, and their heads are opposed in both or in
+-- neither.
 pub record HaveLikeParts (numbers : ℕ → Bool) (t u : Tree) : Type 0 where
   pub form_same : form_of t ≡ form_of u
   pub first_alike : IsTrue (is_composed (form_of t)) → AreAlike numbers (first_part t) (first_part u)
   pub second_alike : IsTrue (is_composed (form_of t)) → AreAlike numbers (second_part t) (second_part u)
-  pub opposed_same : IsTrue (is_composed (form_of t)) → are_opposed (first_part t) (second_part t) ≡ are_opposed (first_part u) (second_part u)
+  pub opposed_same : IsTrue (is_composed (form_of t)) → are_opposed (first_part t) (second_part t)
+      ≡ are_opposed (first_part u) (second_part u)

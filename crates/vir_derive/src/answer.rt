@@ -1,4 +1,6 @@
-ghost use Rattle.std.specs.Prelude.{◌≡◌, ◌↔◌, ℕ, List, Some, None, IsTrue, IfOk, IfSome, MatchOption, option_map, slice_get};
+// The first derivation of a judgement, or the reasons against it.
+ghost use Rattle.std.specs.Prelude.{◌≡◌, ◌↔◌, ℕ, List, Some, None, IsTrue, IfOk, IfSome, MatchOption, option_map};
+ghost use Rattle.std.specs.Prelude.{slice_get};
 ghost use Rattle.std.specs.Option.{option_and_then};
 ghost use Rattle.vir_rules.specs.Claims.{Claim};
 ghost use Rattle.vir_rules.specs.Derivations.{Derivable, AllDerivable, Fails, IsFirst};
@@ -52,7 +54,8 @@ impl<'a, 'm> JudgementWithProps<'a, 'm> {
     // A premise of the rule, the first one at 0, beside what is derivable of its term.
     fn premise(self, rule: RuleId, i: usize) -> Option<JudgementWithProps<'a, 'm>>
         requires { HasItsProps self }
-        ensures premise { option_map claim_of result ≡ option_and_then (λ needed. slice_get needed i) (premises rule (claim_of self.entry)) }
+        ensures premise { option_map claim_of result ≡ option_and_then (λ needed. slice_get needed i)
+            (premises rule (claim_of self.entry)) }
         ensures props { IfSome result HasItsProps }
     {
         let judgement = premise(rule, self.judgement, i)?;
@@ -94,7 +97,8 @@ impl<'a, 'm> JudgementWithProps<'a, 'm> {
     #[cycle(first)]
     fn children(self, alloc: Global, rule: RuleId) -> Result<Option<Children>, AllocError>
         requires { HasItsProps self }
-        ensures { IfOk result (λ found. MatchOption found (Fails rule (claim_of self.entry)) (AreChildren rule (claim_of self.entry))) }
+        ensures { IfOk result (λ found. MatchOption found (Fails rule (claim_of self.entry))
+            (AreChildren rule (claim_of self.entry))) }
     {
         let Some(count) = premise_count(rule, self.judgement) else {
             return Ok(None);

@@ -39,15 +39,26 @@ impl DerivableProps {
     pub fn of_leaf(leaf: &Leaf) -> DerivableProps
         ensures { Tells result (tree.leaf leaf.now) }
     {
-        DerivableProps::of_parts(Form::Leaf(leaf), DerivableProps::EMPTY, DerivableProps::EMPTY, false)
+        DerivableProps::of_parts(
+            Form::Leaf(leaf),
+            DerivableProps::EMPTY,
+            DerivableProps::EMPTY,
+            false,
+        )
     }
 
     /// What is derivable of a term of this form, from what is of its first and its second part and from whether
     /// the heads of these are opposed. Where there is one part, it counts as the first and as the second
     /// one, and its head isn't opposed to itself; of a module only the form counts.
-    pub fn of_parts(form: Form, first: DerivableProps, second: DerivableProps, opposed: bool) -> DerivableProps
+    pub fn of_parts(
+        form: Form,
+        first: DerivableProps,
+        second: DerivableProps,
+        opposed: bool,
+    ) -> DerivableProps
         ensures all { (term : Tree) → IsSeen (form_seen form.entry) first second opposed term → Tells result term }
-        ensures within { (numbers : ℕ → Bool) → AreEnough numbers → (term : Tree) → IsSeenWithin numbers (form_seen form.entry) first second opposed term → TellsWithin numbers result term }
+        ensures within { (numbers : ℕ → Bool) → AreEnough numbers → (term : Tree) → IsSeenWithin numbers
+            (form_seen form.entry) first second opposed term → TellsWithin numbers result term }
     {
         let sight = Sight {
             form,

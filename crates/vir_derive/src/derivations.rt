@@ -1,3 +1,4 @@
+// All that can be derived of a term, and the answers about it.
 ghost use Rattle.std.specs.Prelude.{◌≡◌, ◌↔◌, IsTrue, IfOk};
 ghost use Rattle.either.specs.Either.{is_left};
 ghost use Rattle.vir_term.specs.Tree.{tree};
@@ -7,8 +8,8 @@ ghost use Rattle.vir_derive.specs.Answers.{Answers};
 ghost use Rattle.vir_derive.specs.PropsTree.{IsPropsTreeOf};
 
 use crate::answer::JudgementWithProps;
-use crate::props_tree::PropsTree;
 use crate::derivable_props::DerivableProps;
+use crate::props_tree::PropsTree;
 use either::Either;
 use std::alloc::{AllocError, Global};
 use vir_rules::{Derivation, Judgement, Prop, Why};
@@ -47,7 +48,8 @@ impl<'a> Derivations<'a> {
         prop: Prop,
     ) -> Result<Either<Derivation, Why<'a>>, AllocError>
         ensures answer { IfOk result (λ answer. Answers answer (of prop (tree self.now.term.now))) }
-        ensures derivable { IfOk result (λ answer. IsTrue (is_left answer) ↔ Derivable (of prop (tree self.now.term.now))) }
+        ensures derivable { IfOk result (λ answer. IsTrue (is_left answer)
+            ↔ Derivable (of prop (tree self.now.term.now))) }
     {
         let judgement = Judgement::Of {
             prop,

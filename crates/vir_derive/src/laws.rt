@@ -1,4 +1,5 @@
-// What holds of derivability and of signatures, whatever the terms. Each law is the contract of a function that does nothing.
+// What holds of derivability and of signatures, whatever the terms. Each law is the contract of a function that does
+// nothing.
 ghost use Rattle.std.specs.Prelude.{◌↔◌, ℕ, Bool, IsTrue};
 ghost use Rattle.vir_term.specs.Tree.{Tree};
 ghost use Rattle.vir_derive.specs.Within.{AreAlike, HaveLikeParts};

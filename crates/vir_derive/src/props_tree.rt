@@ -1,10 +1,11 @@
+// What is derivable of a term and of each of its parts.
 ghost use Rattle.std.specs.Prelude.{◌≡◌, IfOk};
 ghost use Rattle.vir_term.specs.Tree.{tree};
 ghost use Rattle.vir_rules.specs.Forms.{form_seen};
 ghost use Rattle.vir_derive.specs.PropsTree.{own_props, first_tree, second_tree, IsPropsTreeOf, JoinsOne, JoinsTwo};
 
-use crate::head::are_opposed;
 use crate::derivable_props::DerivableProps;
+use crate::head::are_opposed;
 use std::alloc::{AllocError, Global};
 use vir_rules::Form;
 use vir_term::Term;
@@ -26,8 +27,7 @@ impl PropsTree {
         ensures { result.now ≡ own_props self.now }
     {
         match self {
-            PropsTree::Leaf(own) | PropsTree::One(own, _) | PropsTree::Two(own, _, _) =>
-                own,
+            PropsTree::Leaf(own) | PropsTree::One(own, _) | PropsTree::Two(own, _, _) => own,
         }
     }
 

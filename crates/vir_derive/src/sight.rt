@@ -64,8 +64,8 @@ fn later_rows_of(prop: Prop) -> (usize, usize)
         Prop::Nb => (91, 92),
         Prop::Dli => (92, 93),
         Prop::Dcc => (93, 94),
-        Prop::Ccomp => (94, 95),
-        _ => (95, 95),
+        Prop::Ccomp => (94, RuleId::COUNT),
+        _ => (RuleId::COUNT, RuleId::COUNT),
     }
 }
 
@@ -73,7 +73,8 @@ impl<'a> Sight<'a> {
     // Whether the property is derivable of the term.
     #[cycle(derives)]
     pub(crate) fn derives(self, prop: Prop) -> bool
-        ensures { (numbers : ℕ → Bool) → AreEnough numbers → (term : Tree) → Shows numbers self.entry term → IsTrue (is_within numbers prop) → IsTrue result ↔ Derivable (of prop term) }
+        ensures { (numbers : ℕ → Bool) → AreEnough numbers → (term : Tree) → Shows numbers self.entry term
+            → IsTrue (is_within numbers prop) → IsTrue result ↔ Derivable (of prop term) }
     {
         let (first, end) = rows_of(prop);
         for i in first..end {
@@ -100,7 +101,9 @@ impl<'a> Sight<'a> {
     #[cycle(derives)]
     fn serves(self, rule: RuleId, prop: Prop) -> bool
         requires { IsTrue (is_rule rule) }
-        ensures { (numbers : ℕ → Bool) → AreEnough numbers → (term : Tree) → Shows numbers self.entry term → IsTrue (is_within numbers prop) → MatchBool result (Derivable (of prop term)) (Fails rule (of prop term)) }
+        ensures { (numbers : ℕ → Bool) → AreEnough numbers → (term : Tree) → Shows numbers self.entry term
+            → IsTrue (is_within numbers prop)
+            → MatchBool result (Derivable (of prop term)) (Fails rule (of prop term)) }
     {
         let Some(k) = number_for(rule, prop, self.form) else {
             return false;
@@ -120,7 +123,8 @@ impl<'a> Sight<'a> {
     #[cycle(derives)]
     fn derives_need(self, need: Need, k: u32) -> bool
         requires { IsTold (form_seen self.form) need }
-        ensures { (numbers : ℕ → Bool) → AreEnough numbers → (term : Tree) → Shows numbers self.entry term → IsTrue (is_need_within numbers k need) → IsTrue result ↔ Derivable (filled (letters_of term k) need) }
+        ensures { (numbers : ℕ → Bool) → AreEnough numbers → (term : Tree) → Shows numbers self.entry term
+            → IsTrue (is_need_within numbers k need) → IsTrue result ↔ Derivable (filled (letters_of term k) need) }
     {
         match need {
             Need::Of(wanted, Part::M) => self.first.has(prop_for(wanted, k)),
@@ -156,7 +160,9 @@ impl<'a> Sight<'a> {
     // The number, not 1, with which `defers` is derivable.
     pub(crate) fn defers_other(self) -> Option<u32>
         ensures other { result ≢ Some 1 }
-        ensures derivable { (numbers : ℕ → Bool) → AreEnough numbers → (term : Tree) → Shows numbers self.entry term → (k : ℕ) → nat_eq k 1 ≡ false → IsTrue (numbers k) → IsTrue (is_number result k) ↔ Derivable (of (prop.Defers k) term) }
+        ensures derivable { (numbers : ℕ → Bool) → AreEnough numbers → (term : Tree) → Shows numbers self.entry term
+            → (k : ℕ) → nat_eq k 1 ≡ false → IsTrue (numbers k) → IsTrue (is_number result k)
+            ↔ Derivable (of (prop.Defers k) term) }
     {
         let k = self.defers_candidate()?;
         if k == 1 || !self.derives(Prop::Defers(k)) {
@@ -167,7 +173,8 @@ impl<'a> Sight<'a> {
 
     // The number with which `rejects` is derivable.
     pub(crate) fn rejects(self) -> Option<u32>
-        ensures { (numbers : ℕ → Bool) → AreEnough numbers → (term : Tree) → Shows numbers self.entry term → (k : ℕ) → IsTrue (numbers k) → IsTrue (is_number result k) ↔ Derivable (of (prop.Rejects k) term) }
+        ensures { (numbers : ℕ → Bool) → AreEnough numbers → (term : Tree) → Shows numbers self.entry term → (k : ℕ)
+            → IsTrue (numbers k) → IsTrue (is_number result k) ↔ Derivable (of (prop.Rejects k) term) }
     {
         let k = self.rejects_candidate()?;
         if !self.derives(Prop::Rejects(k)) {

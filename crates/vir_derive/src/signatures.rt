@@ -145,11 +145,7 @@ pub fn loop_one_signature(alloc: Global, m: &Signature) -> Result<Signature, All
 }
 
 /// The signature of the sequential composition of two terms that have these ones, for the same numbers.
-pub fn seq_signature(
-    alloc: Global,
-    m: &Signature,
-    n: &Signature,
-) -> Result<Signature, AllocError>
+pub fn seq_signature(alloc: Global, m: &Signature, n: &Signature) -> Result<Signature, AllocError>
     ensures { IfOk result (λ s. (numbers : List ℕ) → (t u : Tree)
         → IsSignatureOf numbers m.now t → IsSignatureOf numbers n.now u → IsSignatureOf numbers s (seq t u)) }
 {
@@ -159,11 +155,7 @@ pub fn seq_signature(
 }
 
 /// The signature of the parallel composition of two terms that have these ones, for the same numbers.
-pub fn par_signature(
-    alloc: Global,
-    m: &Signature,
-    n: &Signature,
-) -> Result<Signature, AllocError>
+pub fn par_signature(alloc: Global, m: &Signature, n: &Signature) -> Result<Signature, AllocError>
     ensures { IfOk result (λ s. (numbers : List ℕ) → (t u : Tree)
         → IsSignatureOf numbers m.now t → IsSignatureOf numbers n.now u → IsSignatureOf numbers s (par t u)) }
 {

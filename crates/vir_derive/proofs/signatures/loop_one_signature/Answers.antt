@@ -7,5 +7,7 @@ use Rattle.vir_derive.proofs.SignatureLemmas.{ok_maps, never_opposed}
 use Rattle.vir_derive.proofs.signatures.loop_one_signature.Goals as goal
 
 pub returns : goal.returns
-returns c = ok_maps (JoinsParts (form.loop (exactly 1)) c.args.m.now c.args.m.now false (head_seen None)) (λ s. (numbers : List ℕ) → (t : Tree) → IsSignatureOf numbers c.args.m.now t → IsSignatureOf numbers s (loop (exactly 1) t)) c.join.result c.join.ensures
+returns c = ok_maps (JoinsParts (form.loop (exactly 1)) c.args.m.now c.args.m.now false (head_seen None))
+    (λ s. (numbers : List ℕ) → (t : Tree) → IsSignatureOf numbers c.args.m.now t → IsSignatureOf numbers s
+    (loop (exactly 1) t)) c.join.result c.join.ensures
     (λ s composed numbers t h. composed numbers (loop (exactly 1) t) refl refl h h (never_opposed t) refl)

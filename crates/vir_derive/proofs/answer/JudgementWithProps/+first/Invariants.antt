@@ -15,7 +15,8 @@ decreases-first l = 2 * measure (claim_of l.self) + 1
 
 -- the children so far are the first derivations of the premises so far, and all premises are derivable
 abbrev pub invariant-children-loop-i : goal.invariant-children-loop-i
-invariant-children-loop-i l = (needed : List Claim) × (premises l.rule (claim_of l.self) ≡ Some needed) × (length needed ≡ l.count) × AllDerivable needed × AreFirst (gathered (rule_trees l.children)) (take l.i needed)
+invariant-children-loop-i l = (needed : List Claim) × (premises l.rule (claim_of l.self) ≡ Some needed)
+    × (length needed ≡ l.count) × AllDerivable needed × AreFirst (gathered (rule_trees l.children)) (take l.i needed)
 
 -- no rule so far serves
 abbrev pub invariant-first-loop-i : goal.invariant-first-loop-i

@@ -7,4 +7,5 @@ use Rattle.vir_derive.proofs.answer.JudgementWithProps.reason.Given as goal
 
 -- the premises so far are derivable
 abbrev pub invariant-loop-i : goal.invariant-loop-i
-invariant-loop-i l = (needed : List Claim) × (premises l.rule (claim_of l.self) ≡ Some needed) × (length needed ≡ l.count) × AllDerivable (take l.i needed)
+invariant-loop-i l = (needed : List Claim) × (premises l.rule (claim_of l.self) ≡ Some needed)
+    × (length needed ≡ l.count) × AllDerivable (take l.i needed)

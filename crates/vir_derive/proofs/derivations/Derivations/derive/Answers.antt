@@ -8,4 +8,5 @@ pub answer-requires : goal.answer-requires
 answer-requires c = settled_tree c.args.self.now.props (tree c.args.self.now.term.now) c.args.self.now.its_props
 
 pub returns-clause-derivable : goal.returns-clause-derivable
-returns-clause-derivable c = answer_decides c.answer.result (of c.args.prop (tree c.args.self.now.term.now)) c.answer.ensures
+returns-clause-derivable c = answer_decides c.answer.result (of c.args.prop (tree c.args.self.now.term.now))
+    c.answer.ensures

@@ -20,12 +20,15 @@ decreases-serves l = 3 * rank l.prop + 1
 
 -- no rule so far serves
 abbrev pub invariant-derives-loop-i : goal.invariant-derives-loop-i
-invariant-derives-loop-i l = (numbers : ℕ → Bool) → AreEnough numbers → (term : Tree) → Shows numbers l.self term → is_within numbers l.prop ≡ true → (rule : ℕ) → rule ≤ l.i → Fails rule (of l.prop term)
+invariant-derives-loop-i l = (numbers : ℕ → Bool) → AreEnough numbers → (term : Tree) → Shows numbers l.self term
+    → is_within numbers l.prop ≡ true → (rule : ℕ) → rule ≤ l.i → Fails rule (of l.prop term)
 
 abbrev pub invariant-derives-loop-j : goal.invariant-derives-loop-j
-invariant-derives-loop-j l = (numbers : ℕ → Bool) → AreEnough numbers → (term : Tree) → Shows numbers l.self term → is_within numbers l.prop ≡ true → (rule : ℕ) → rule ≤ l.j → Fails rule (of l.prop term)
+invariant-derives-loop-j l = (numbers : ℕ → Bool) → AreEnough numbers → (term : Tree) → Shows numbers l.self term
+    → is_within numbers l.prop ≡ true → (rule : ℕ) → rule ≤ l.j → Fails rule (of l.prop term)
 
 -- the premises so far are derivable
 abbrev pub invariant-serves-loop-i : goal.invariant-serves-loop-i
 invariant-serves-loop-i l = (l.i-end ≡ length (row_of l.rule).premises) ×
-    ((numbers : ℕ → Bool) → AreEnough numbers → (term : Tree) → Shows numbers l.self term → is_within numbers l.fn.prop ≡ true → AllDerivable (take l.i (map (filled (letters_of term l.k)) (row_of l.rule).premises)))
+    ((numbers : ℕ → Bool) → AreEnough numbers → (term : Tree) → Shows numbers l.self term → is_within numbers l.fn.prop
+    ≡ true → AllDerivable (take l.i (map (filled (letters_of term l.k)) (row_of l.rule).premises)))
