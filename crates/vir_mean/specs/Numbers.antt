@@ -29,7 +29,7 @@ pub record IsWithin (b : ℕ) (z : ℤ) : Type 0 where
 
 -- no score is greater than this, also below 0
 abbrev pub score_bound : ℕ
-score_bound = (limit + 1) * 2 ^ 64
+score_bound = 1000000 * 2 ^ 64
 
 -- Each member's score is within that bound.
 pub record AreSmall (a : Set) (scores : List ℤ) : Type 0 where
