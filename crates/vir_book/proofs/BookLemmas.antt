@@ -1,5 +1,7 @@
 -- Laws of names and their limits.
-use Rattle.std.proofs.Common.{◌≡◌, ℕ, zero, suc, ◌+◌, ◌-◌, Bool, true, false, ◌||◌, List, [], ◌∷◌, ◌++◌, drop, length, slice_get, Option, Some, None, Ok, is_some, option_map, if◌then◌else◌, refl, sym, ap, ◌∙◌, arith, subst, add-one}
+use Rattle.std.proofs.Common.{◌≡◌, ℕ, zero, suc, ◌+◌, ◌-◌, Bool, true, false, ◌||◌, List, [], ◌∷◌, ◌++◌, drop, length}
+use Rattle.std.proofs.Common.{slice_get, Option, Some, None, Ok, is_some, option_map, if◌then◌else◌, refl, sym, ap, ◌∙◌}
+use Rattle.std.proofs.Common.{arith, subst, add-one}
 use Rattle.std.specs.Str.{bytes_eq}
 use Rattle.vir_term.specs.Tree.{Tree}
 use Rattle.vir_term.specs.Limits.{IsWithinLimits}
@@ -10,7 +12,8 @@ use Rattle.vir_book.specs.Books.{Entry, lookup, last_term, AllWithinLimits}
 some_some : {A : Type 0} (x y : A) → Some x ≡ Some y → x ≡ y
 some_some x y h = cc
 
-within_cases : (b : Bool) (s t : Tree) (found : Option Tree) → (found ≡ Some t → IsWithinLimits t) → IsWithinLimits s → (if b then Some s else found) ≡ Some t → IsWithinLimits t
+within_cases : (b : Bool) (s t : Tree) (found : Option Tree) → (found ≡ Some t → IsWithinLimits t) → IsWithinLimits s
+    → (if b then Some s else found) ≡ Some t → IsWithinLimits t
 within_cases true s t found h k e = subst IsWithinLimits (some_some s t e) k
 within_cases false s t found h k e = h e
 
@@ -20,12 +23,14 @@ lookup_within [] within name t e = cc
 lookup_within (x ∷ rest) within name t e =
     within_cases (bytes_eq name x.name) x.term t (lookup rest name) (lookup_within rest within.1 name t) within.0 e
 
-pub within-append : (list : List Entry) (e : Entry) → AllWithinLimits list → IsWithinLimits e.term → AllWithinLimits (list ++ e ∷ [])
+pub within-append : (list : List Entry) (e : Entry) → AllWithinLimits list → IsWithinLimits e.term
+    → AllWithinLimits (list ++ e ∷ [])
 within-append [] e within k = (k, tt)
 within-append (x ∷ rest) e within k = (within.0, within-append rest e within.1 k)
 
 -- so is the last one
-pub last-within : (list : List Entry) (n : ℕ) (t : Tree) → AllWithinLimits list → Some t ≡ option_map (λ e. e.term) (slice_get list n) → IsWithinLimits t
+pub last-within : (list : List Entry) (n : ℕ) (t : Tree) → AllWithinLimits list → Some t ≡ option_map (λ e. e.term)
+    (slice_get list n) → IsWithinLimits t
 last-within [] n t within h = cc
 last-within (x ∷ rest) zero t within h = subst IsWithinLimits (sym (some_some t x.term h)) within.0
 last-within (x ∷ rest) (suc n) t within h = last-within rest n t within.1 h
@@ -40,10 +45,12 @@ not_some (Some x) h = cc
 
 -- a name that isn't known isn't defined
 pub lookup_unknown : (list : List Entry) (name : List ℕ) → is_known (lookup list) name ≡ false → lookup list name ≡ None
-lookup_unknown list name h = not_some (lookup list name) (either_false (is_some (built_in_named name)) (is_some (lookup list name)) h)
+lookup_unknown list name h = not_some (lookup list name) (either_false (is_some (built_in_named name))
+    (is_some (lookup list name)) h)
 
 -- the last entry's term
-pub last_term-last : (list : List Entry) (t : Tree) → Some t ≡ option_map (λ e. e.term) (slice_get list (length list - 1)) → last_term list ≡ Ok t
+pub last_term-last : (list : List Entry) (t : Tree) → Some t ≡ option_map (λ e. e.term)
+    (slice_get list (length list - 1)) → last_term list ≡ Ok t
 last_term-last [] t is = cc
 last_term-last (e ∷ []) t is = ap Ok (sym (some_some t e.term is))
 last_term-last (e ∷ next ∷ rest) t is =

@@ -5,7 +5,8 @@ use Rattle.std.specs.Coded.{×_prop, Unit-prop, le_prop}
 use mathlib.Core.Path.{path_j}
 use Rattle.std.proofs.Math.Logic.{∥∥₁_elim}
 use Rattle.vir_term.specs.declared.leaf.Leaf.{Leaf}
-use Rattle.vir_term.specs.declared.leaf.Leaf.TheVariants.{Elect, Defer, PassFirst, DropFirst, Plurality, Max, Min, Below, Upto}
+use Rattle.vir_term.specs.declared.leaf.Leaf.TheVariants.{Elect, Defer, PassFirst, DropFirst, Plurality, Max, Min}
+use Rattle.vir_term.specs.declared.leaf.Leaf.TheVariants.{Below, Upto}
 use Rattle.vir_term.specs.Orders.{order_fault}
 use Rattle.vir_term.specs.Tree.{Tree, leaf, rev, seq, par, loop, number_of}
 use Rattle.vir_term.specs.Limits.{IsCount, IsOfFirst, IsLeafInRange, IsInRange, IsWithinLimits}
@@ -56,12 +57,19 @@ IsInRange-prop (par first second) = ×_prop (IsInRange-prop first) (IsInRange-pr
 IsInRange-prop (loop k body) = ×_prop (IsCount-prop (number_of k)) (IsInRange-prop body)
 
 IsWithinLimits-prop : (t : Tree) → IsProp (IsWithinLimits t)
-IsWithinLimits-prop t a b = λ i. record { small = le_prop a.small b.small i; flat = le_prop a.flat b.flat i; in_range = IsInRange-prop t a.in_range b.in_range i }
+IsWithinLimits-prop t a b = λ i. record {
+  small = le_prop a.small b.small i;
+  flat = le_prop a.flat b.flat i;
+  in_range = IsInRange-prop t a.in_range b.in_range i;
+}
 
 -- so that of the last one is had from what a book keeps
-pub last-within-kept : (list : List Entry) (n : ℕ) (t : Tree) → ∥ AllWithinLimits list ∥₁ → Some t ≡ option_map (λ e. e.term) (slice_get list n) → IsWithinLimits t
+pub last-within-kept : (list : List Entry) (n : ℕ) (t : Tree) → ∥ AllWithinLimits list ∥₁ → Some t
+    ≡ option_map (λ e. e.term) (slice_get list n) → IsWithinLimits t
 last-within-kept list n t kept h = ∥∥₁_elim kept (IsWithinLimits-prop t) (λ within. last-within list n t within h)
 
 -- and so is that of the term of each name
-pub lookup-within-kept : (list : List Entry) (name : List ℕ) (t : Tree) → ∥ AllWithinLimits list ∥₁ → lookup list name ≡ Some t → IsWithinLimits t
-lookup-within-kept list name t kept h = ∥∥₁_elim kept (IsWithinLimits-prop t) (λ within. lookup_within list within name t h)
+pub lookup-within-kept : (list : List Entry) (name : List ℕ) (t : Tree) → ∥ AllWithinLimits list ∥₁ → lookup list name
+    ≡ Some t → IsWithinLimits t
+lookup-within-kept list name t kept h = ∥∥₁_elim kept (IsWithinLimits-prop t) (λ within. lookup_within list within name
+    t h)

@@ -48,12 +48,14 @@ AllWithinLimits (e ∷ rest) = IsWithinLimits e.term × AllWithinLimits rest
 
 -- The term of a definition behind these entries. Its name must be new.
 abbrev pub new_term : List ℕ → List Entry → List ℕ → Written → OrFault Tree
-new_term text before name d = if is_known (lookup before) name then Err (fault NameTwice d.name.start) else term_of text (lookup before) d.name.start d.tree
+new_term text before name d = if is_known (lookup before) name then Err (fault NameTwice d.name.start)
+    else term_of text (lookup before) d.name.start d.tree
 
 -- these entries, and behind them that of a definition
 abbrev pub with_definition : List ℕ → List Entry → Written → OrFault (List Entry)
 with_definition text before d =
-    new_term text before (span text d.name.start d.name.end) d >>= λ t. Ok (before ++ entry (span text d.name.start d.name.end) t ∷ [])
+    new_term text before (span text d.name.start d.name.end) d >>= λ t.
+    Ok (before ++ entry (span text d.name.start d.name.end) t ∷ [])
 
 -- These entries, and those of the definitions up to the end, of which there are at most so many.
 abbrev pub entries_of : ℕ → List ℕ → List Entry → List Token → OrFault (List Entry)

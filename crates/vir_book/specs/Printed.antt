@@ -15,7 +15,8 @@ book_text (e ∷ rest) = definition_text e.name e.term ++ book_text rest
 abbrev pub AreDefinable : List Entry → List Entry → Type 0
 AreDefinable before [] = ⊤
 AreDefinable before (e ∷ rest) =
-    (is_name e.name ≡ true) × (is_known (lookup before) e.name ≡ false) × IsWithinLimits e.term × AreDefinable (before ++ e ∷ []) rest
+    (is_name e.name ≡ true) × (is_known (lookup before) e.name ≡ false) × IsWithinLimits e.term
+    × AreDefinable (before ++ e ∷ []) rest
 
 -- a name of at most so many bytes leaves room for each term within the limits
 abbrev pub name_limit : ℕ

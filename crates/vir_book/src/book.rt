@@ -1,10 +1,12 @@
 // Rule files.
-ghost use Rattle.std.specs.Prelude.{◌≡◌, ◌-◌, ◌≤◌, ◌∷◌, [], None, Some, Ok, IfOk, IfSome, option_map, length, slice_get, ℕ};
+ghost use Rattle.std.specs.Prelude.{◌≡◌, ◌-◌, ◌≤◌, ◌∷◌, [], None, Some, Ok, IfOk, IfSome, option_map, length};
+ghost use Rattle.std.specs.Prelude.{slice_get, ℕ};
 ghost use Rattle.vir_term.specs.Tree.{tree};
 ghost use Rattle.vir_term.specs.Limits.{IsWithinLimits};
 ghost use Rattle.vir_read.specs.Faults.{Gives};
 ghost use Rattle.vir_read.specs.Arguments.{AreWithinLimits};
-ghost use Rattle.vir_book.specs.Books.{lookup, entry, new_term, with_definition, entries_of, last_term, AllWithinLimits, filled, book_of};
+ghost use Rattle.vir_book.specs.Books.{lookup, entry, new_term, with_definition, entries_of, last_term};
+ghost use Rattle.vir_book.specs.Books.{AllWithinLimits, filled, book_of};
 ghost use Rattle.vir_book.specs.Entries.{entries};
 ghost use Rattle.vir_book.specs.Listing.{listing, written};
 
@@ -84,7 +86,8 @@ fn add_definition(
     definition: &Definition,
 ) -> Result<Entries, TextError>
     requires { AllWithinLimits (entries found) }
-    ensures exact { Gives (λ after. entries after) result (with_definition text.now (entries found) (written definition.now)) }
+    ensures exact { Gives (λ after. entries after) result (with_definition text.now (entries found)
+        (written definition.now)) }
     ensures within { IfOk result (λ after. AllWithinLimits (entries after)) }
 {
     let mut found = found;

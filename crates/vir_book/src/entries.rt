@@ -43,7 +43,8 @@ impl Entries {
     }
 
     pub fn last(&self) -> Option<&Term>
-        ensures { option_map (λ term. tree term.now) result ≡ option_map (λ e. e.term) (slice_get (entries self.now) (length (entries self.now) - 1)) }
+        ensures { option_map (λ term. tree term.now) result ≡ option_map (λ e. e.term)
+            (slice_get (entries self.now) (length (entries self.now) - 1)) }
     {
         match self.map.last() {
             Some((_, term)) => Some(term),

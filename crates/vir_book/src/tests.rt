@@ -66,12 +66,12 @@ const TEXTS: &[(&str, Expected)] = &[
     ("elect = defer;", Expected::Fault(TextKind::NameTwice, 0)),
     ("until = defer;", Expected::Fault(TextKind::NameTwice, 0)),
     (
-        "a = seq(elect,elect);b = seq(a,a);c = seq(b,b);d = seq(c,c);e = seq(d,d);f = seq(e,e);r = rev(seq(seq(f,e),b));",
+        "a=seq(elect,elect);b=seq(a,a);c=seq(b,b);d=seq(c,c);e=seq(d,d);f=seq(e,e);r=rev(seq(seq(f,e),b));",
         Expected::Size(200),
     ),
     (
-        "a = seq(elect,elect);b = seq(a,a);c = seq(b,b);d = seq(c,c);e = seq(d,d);f = seq(e,e);r = rev(rev(seq(seq(f,e),b)));",
-        Expected::Fault(TextKind::TooLarge, 86),
+        "a=seq(elect,elect);b=seq(a,a);c=seq(b,b);d=seq(c,c);e=seq(d,d);f=seq(e,e);r=rev(rev(seq(seq(f,e),b)));",
+        Expected::Fault(TextKind::TooLarge, 74),
     ),
     (
         "a = seq(elect,elect);b = seq(a,a);c = seq(b,b);d = seq(c,c);e = seq(d,d);f = seq(e,e);g = seq(f,f);",

@@ -1,5 +1,6 @@
 -- Tokens that are read, and those that are left.
-use Rattle.std.proofs.Common.{◌≡◌, ℕ, ◌≤◌, List, [], ◌∷◌, ◌++◌, length, drop, Option, Some, None, Ok, Err, option_to_list, refl, ap, ◌∙◌, append_assoc, append-nil}
+use Rattle.std.proofs.Common.{◌≡◌, ℕ, ◌≤◌, List, [], ◌∷◌, ◌++◌, length, drop, Option, Some, None, Ok, Err}
+use Rattle.std.proofs.Common.{option_to_list, refl, ap, ◌∙◌, append_assoc, append-nil}
 use Rattle.std.proofs.lemmas.List.{drop_all}
 use Rattle.vir_read.specs.declared.token.Token.{Token}
 use Rattle.vir_read.specs.Faults.{OrFault}
@@ -23,7 +24,8 @@ with_tokens-found front None (Err e) = refl
 with_tokens-found front (Some t) (Err e) = refl
 
 -- at the end nothing is left
-pub with_tokens-end : (front : List Token) (at : ℕ) (text : List ℕ) → length text ≤ at → with_tokens front (tokens_from 0 at (drop at text)) ≡ Ok front
+pub with_tokens-end : (front : List Token) (at : ℕ) (text : List ℕ) → length text ≤ at
+    → with_tokens front (tokens_from 0 at (drop at text)) ≡ Ok front
 unfolding tokens_from
 with_tokens-end front at text h =
     ap (λ bytes. with_tokens front (tokens_from 0 at bytes)) (drop_all at text h) ∙ ap Ok (append-nil front)

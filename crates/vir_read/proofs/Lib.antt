@@ -8,6 +8,7 @@ pub mod FrontLemmas
 pub mod ListedLemmas
 pub mod TreeLemmas
 pub mod MemberLemmas
+pub mod LeavesLemmas
 pub mod RawLemmas
 pub mod BeginLemmas
 pub mod RoundTripTyping

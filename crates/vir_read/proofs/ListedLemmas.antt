@@ -22,7 +22,8 @@ pub in_front-none : (front : List RawTree) → in_front front none ≡ gathered 
 in_front-none [] = refl
 in_front-none (t ∷ front) = ap (more t) (in_front-none front)
 
-pub in_front-more : (front : List RawTree) (t : RawTree) (rest : RawTrees) → in_front (front ++ t ∷ []) rest ≡ in_front front (more t rest)
+pub in_front-more : (front : List RawTree) (t : RawTree) (rest : RawTrees) → in_front (front ++ t ∷ []) rest
+    ≡ in_front front (more t rest)
 in_front-more [] t rest = refl
 in_front-more (x ∷ front) t rest = ap (more x) (in_front-more front t rest)
 
@@ -30,6 +31,7 @@ pub with_trees-none : (found : Read RawTrees) → with_trees [] found ≡ found
 with_trees-none (Ok found) = refl
 with_trees-none (Err e) = refl
 
-pub with_trees-more : (front : List RawTree) (t : RawTree) (further : Read RawTrees) → with_trees (front ++ t ∷ []) further ≡ with_trees front (with_tree t further)
+pub with_trees-more : (front : List RawTree) (t : RawTree) (further : Read RawTrees) → with_trees (front ++ t ∷ [])
+    further ≡ with_trees front (with_tree t further)
 with_trees-more front t (Ok found) = ap (λ trees. Ok (trees, found.1)) (in_front-more front t found.0)
 with_trees-more front t (Err e) = refl

@@ -1,5 +1,7 @@
 -- The tokens of a printed term say its pieces.
-use Rattle.std.proofs.Common.{◌≡◌, ℕ, suc, ◌+◌, ◌-◌, ◌<◌, ◌≤◌, ◌^◌, Bool, true, false, ◌&&◌, List, [], ◌∷◌, ◌++◌, length, take, Some, None, nat_le, nat_eq, decimal, slice_get, refl, sym, ◌∙◌, ap, subst, arith, append_assoc, append-nil, length-append, lit<}
+use Rattle.std.proofs.Common.{◌≡◌, ℕ, suc, ◌+◌, ◌-◌, ◌<◌, ◌≤◌, ◌^◌, Bool, true, false, ◌&&◌, List, [], ◌∷◌, ◌++◌}
+use Rattle.std.proofs.Common.{length, take, Some, None, nat_le, nat_eq, decimal, slice_get, refl, sym, ◌∙◌, ap, subst}
+use Rattle.std.proofs.Common.{arith, append_assoc, append-nil, length-append, lit<}
 use Rattle.std.specs.Prelude.{codes}
 use Rattle.std.specs.Int.{IsInRange as IsBetween}
 use Rattle.std.specs.List.{list_any, list_all}
@@ -10,7 +12,8 @@ use Rattle.std.proofs.lemmas.Fmt.{digits_decimal, decimal_nonempty}
 use Rattle.std.proofs.Math.Seq.{drop-append_seam, take-append_seam}
 use Rattle.vir_term.specs.declared.fixed_order.OrderFault.TheVariants.{OutOfRange, Repeated}
 use Rattle.vir_term.specs.declared.leaf.Leaf.{Leaf}
-use Rattle.vir_term.specs.declared.leaf.Leaf.TheVariants.{Elect, Defer, PassFirst, DropFirst, Plurality, Max, Min, Below, Upto}
+use Rattle.vir_term.specs.declared.leaf.Leaf.TheVariants.{Elect, Defer, PassFirst, DropFirst, Plurality, Max, Min}
+use Rattle.vir_term.specs.declared.leaf.Leaf.TheVariants.{Below, Upto}
 use Rattle.vir_term.specs.declared.score.Score.{Score}
 use Rattle.vir_term.specs.declared.score.Score.TheVariants as score
 use Rattle.vir_term.specs.Orders.{member_limit, order_fault_after}
@@ -19,9 +22,11 @@ use Rattle.vir_term.specs.Text.{score_text, more_text, order_text, leaf_text, te
 use Rattle.vir_term.specs.Tree.{Tree, leaf, rev, seq, par, loop, exactly, at_most}
 use Rattle.vir_read.specs.declared.token.Token.{Token}
 use Rattle.vir_read.specs.declared.token.TokenKind.TheVariants as kind
-use Rattle.vir_read.specs.Tokens.{is_blank, is_letter, is_digit, is_sign, is_comment_sign, is_word_byte, run, token, with_token, tokens_from}
+use Rattle.vir_read.specs.Tokens.{is_blank, is_letter, is_digit, is_sign, is_comment_sign, is_word_byte, run, token}
+use Rattle.vir_read.specs.Tokens.{with_token, tokens_from}
 use Rattle.vir_read.specs.Arguments.{span}
-use Rattle.vir_read.specs.Pieces.{Piece, name, digits, sign, Says, SayAll, pieces_of, pieces_of_two, more_pieces, ordered_pieces, leaf_pieces, term_pieces, with_tokens}
+use Rattle.vir_read.specs.Pieces.{Piece, name, digits, sign, Says, SayAll, pieces_of, pieces_of_two, more_pieces}
+use Rattle.vir_read.specs.Pieces.{ordered_pieces, leaf_pieces, term_pieces, with_tokens}
 use Rattle.vir_read.specs.Printed.{is_name}
 use Rattle.vir_read.proofs.RoundTripTyping.{digits_are_read, no_fault, member_is_small}
 
@@ -31,16 +36,19 @@ pub both : (a b : Bool) → (a && b) ≡ true → (a ≡ true) × (b ≡ true)
 both true b h = (refl, h)
 both false b h = cc
 
-run-append : (test : ℕ → Bool) (w after : List ℕ) → list_all test w ≡ true → run test after ≡ 0 → run test (w ++ after) ≡ length w
+run-append : (test : ℕ → Bool) (w after : List ℕ) → list_all test w ≡ true → run test after ≡ 0 → run test (w ++ after)
+    ≡ length w
 run-append test [] after h e = e
 run-append test (b ∷ w) after h e =
     let k = both (test b) (list_all test w) h in rw k.0 (ap suc (run-append test w after k.1 e))
 
 -- bytes that belong to what began before are no tokens
-tokens_from-inside : (w after : List ℕ) (at : ℕ) → tokens_from (length w) at (w ++ after) ≡ tokens_from 0 (at + length w) after
+tokens_from-inside : (w after : List ℕ) (at : ℕ) → tokens_from (length w) at (w ++ after)
+    ≡ tokens_from 0 (at + length w) after
 unfolding tokens_from
 tokens_from-inside [] after at = ap (λ n. tokens_from 0 n after) (omega arith)
-tokens_from-inside (b ∷ w) after at = tokens_from-inside w after (at + 1) ∙ ap (λ n. tokens_from 0 n after) (omega arith)
+tokens_from-inside (b ∷ w) after at = tokens_from-inside w after (at + 1) ∙ ap (λ n. tokens_from 0 n after)
+    (omega arith)
 
 -- ---- words, numbers and signs
 
@@ -64,14 +72,22 @@ letter_begins b h = (grind (arith, nat_tests), grind (arith, nat_tests))
 digit_begins : (b : ℕ) → is_digit b ≡ true → (is_blank b ≡ false) × (is_comment_sign b ≡ false) × (is_letter b ≡ false)
 digit_begins b h = (grind (arith, nat_tests), grind (arith, nat_tests), grind (arith, nat_tests))
 
-sign_begins : (b : ℕ) → is_sign b ≡ true → (is_blank b ≡ false) × (is_comment_sign b ≡ false) × (is_letter b ≡ false) × (is_digit b ≡ false)
-sign_begins b h = (grind (arith, nat_tests), grind (arith, nat_tests), grind (arith, nat_tests), grind (arith, nat_tests))
+sign_begins : (b : ℕ) → is_sign b ≡ true → (is_blank b ≡ false) × (is_comment_sign b ≡ false) × (is_letter b ≡ false)
+    × (is_digit b ≡ false)
+sign_begins b h = (
+  grind (arith, nat_tests),
+  grind (arith, nat_tests),
+  grind (arith, nat_tests),
+  grind
+      (arith, nat_tests),
+)
 
 sign_is_no_word_byte : (b : ℕ) → is_sign b ≡ true → is_word_byte b ≡ false
 sign_is_no_word_byte b h = grind (arith, nat_tests)
 
 word_first : (w after : List ℕ) (at : ℕ) → IsName w → run is_word_byte after ≡ 0 →
-    tokens_from 0 at (w ++ after) ≡ with_token (token kind.Word at (at + length w)) (tokens_from 0 (at + length w) after)
+    tokens_from 0 at (w ++ after) ≡ with_token (token kind.Word at (at + length w))
+    (tokens_from 0 (at + length w) after)
 unfolding tokens_from
 word_first [] after at h e = absurd h
 word_first (b ∷ w) after at h e =
@@ -80,7 +96,8 @@ word_first (b ∷ w) after at h e =
     rw (k.0, k.1, h.0, run-append is_word_byte w after h.1 e, tokens_from-inside w after (at + 1), n) refl
 
 number_first : (w after : List ℕ) (at : ℕ) → IsNumeral w → run is_digit after ≡ 0 →
-    tokens_from 0 at (w ++ after) ≡ with_token (token kind.Number at (at + length w)) (tokens_from 0 (at + length w) after)
+    tokens_from 0 at (w ++ after) ≡ with_token (token kind.Number at (at + length w))
+    (tokens_from 0 (at + length w) after)
 unfolding tokens_from
 number_first [] after at h e = absurd h
 number_first (b ∷ w) after at h e =
@@ -132,7 +149,8 @@ are_apart-append (digits n ∷ ps) qs h b k = (h.0, begins_apart-append ps qs h.
 are_apart-append (sign c ∷ ps) qs h b k = (h.0, are_apart-append ps qs h.1 b k)
 
 -- no byte of a word stands first
-begins_apart-run : (ps : List Piece) (after : List ℕ) → BeginsApart ps → run is_word_byte after ≡ 0 → run is_word_byte (pieces_text ps ++ after) ≡ 0
+begins_apart-run : (ps : List Piece) (after : List ℕ) → BeginsApart ps → run is_word_byte after ≡ 0
+    → run is_word_byte (pieces_text ps ++ after) ≡ 0
 begins_apart-run [] after h e = e
 begins_apart-run (sign b ∷ ps) after h e = rw (sign_is_no_word_byte b h) refl
 begins_apart-run (name w ∷ ps) after h e = absurd h
@@ -155,7 +173,8 @@ run-digits (b ∷ rest) h = rw (digit_is_word_byte b (no_word_byte b rest h)) re
 pub span-here : (before w after : List ℕ) → span (before ++ (w ++ after)) (length before) (length before + length w) ≡ w
 span-here before w after =
     let n : (length before + length w) - length before ≡ length w = omega arith in
-    ap (take ((length before + length w) - length before)) (drop-append_seam before (w ++ after)) ∙ ap (λ n. take n (w ++ after)) n ∙ take-append_seam w after
+    ap (take ((length before + length w) - length before)) (drop-append_seam before (w ++ after))
+    ∙ ap (λ n. take n (w ++ after)) n ∙ take-append_seam w after
 
 byte-here : (before : List ℕ) (b : ℕ) (after : List ℕ) → slice_get (before ++ b ∷ after) (length before) ≡ Some b
 byte-here [] b after = refl
@@ -165,20 +184,25 @@ module _ (text after : List ℕ) (ends : run is_word_byte after ≡ 0) where
   -- where these pieces stand at a place of the text, their tokens do
   abbrev pub Found : List Piece → ℕ → Type 0
   Found ps at = (tokens : List Token) × SayAll text ps tokens
-      × (tokens_from 0 at (pieces_text ps ++ after) ≡ with_tokens tokens (tokens_from 0 (at + length (pieces_text ps)) after))
+      × (tokens_from 0 at (pieces_text ps ++ after) ≡ with_tokens tokens (tokens_from 0 (at + length (pieces_text ps))
+      after))
 
   -- one more token in front of those
-  found-more : (p : Piece) (ps : List Piece) (t : Token) (at at' : ℕ) → Says text p t → at' ≡ at + length (piece_text p) →
-      tokens_from 0 at (piece_text p ++ (pieces_text ps ++ after)) ≡ with_token t (tokens_from 0 at' (pieces_text ps ++ after)) → Found ps at' → Found (p ∷ ps) at
+  found-more : (p : Piece) (ps : List Piece) (t : Token) (at at' : ℕ) → Says text p t → at' ≡ at + length (piece_text p)
+      →
+      tokens_from 0 at (piece_text p ++ (pieces_text ps ++ after))
+      ≡ with_token t (tokens_from 0 at' (pieces_text ps ++ after)) → Found ps at' → Found (p ∷ ps) at
   found-more p ps t at at' says e first others =
-      let n : at' + length (pieces_text ps) ≡ at + length (piece_text p ++ pieces_text ps) = omega (arith, length-append (piece_text p) (pieces_text ps), e) in (
+      let n : at' + length (pieces_text ps) ≡ at + length (piece_text p ++ pieces_text ps) =
+      omega (arith, length-append (piece_text p) (pieces_text ps), e) in (
         t ∷ others.0,
         (says, others.1),
         ap (tokens_from 0 at) (append_assoc (piece_text p) (pieces_text ps) after) ∙ first
             ∙ ap (with_token t) (others.2 ∙ ap (λ n. with_tokens others.0 (tokens_from 0 n after)) n),
       )
 
-  pub pieces_are_found : (ps : List Piece) → AreApart ps → (before : List ℕ) → text ≡ before ++ (pieces_text ps ++ after) → Found ps (length before)
+  pub pieces_are_found : (ps : List Piece) → AreApart ps → (before : List ℕ) → text ≡ before
+      ++ (pieces_text ps ++ after) → Found ps (length before)
   pieces_are_found [] apart before e = ([], tt, ap (λ n. tokens_from 0 n after) (omega arith))
   pieces_are_found (name w ∷ ps) apart before e =
       let whole = pieces_text ps ++ after in
@@ -196,7 +220,8 @@ module _ (text after : List ℕ) (ends : run is_word_byte after ≡ 0) where
       let here : text ≡ before ++ (w ++ whole) = e ∙ ap (λ y. before ++ y) (append_assoc w (pieces_text ps) after) in
       let at' = length before + length w in
       let t = token kind.Number (length before) at' in
-      let says : Says text (digits k) t = (refl, ap (λ y. span y (length before) at') here ∙ span-here before w whole) in
+      let says : Says text (digits k) t = (refl, ap (λ y. span y (length before) at') here ∙ span-here before w whole)
+      in
       let others = pieces_are_found ps apart.2 (before ++ w) (here ∙ sym (append_assoc before w whole)) in
       found-more (digits k) ps t (length before) at' says refl
       (number_first w whole (length before) apart.0 (run-digits whole (begins_apart-run ps after apart.1 ends)))
@@ -231,27 +256,46 @@ decimal_is_numeral n h =
 pub apart-of : (w : List ℕ) (ps : List Piece) → IsName w → AreApart ps → AreApart (pieces_of w ps)
 apart-of w ps n a = (n, refl, (refl, are_apart-append ps (sign 41 ∷ []) a refl (refl, tt)))
 
-apart-of_two : (w : List ℕ) (ps qs : List Piece) → IsName w → AreApart ps → AreApart qs → AreApart (pieces_of_two w ps qs)
-apart-of_two w ps qs n a b =
-    (n, refl, (refl, are_apart-append ps (sign 44 ∷ (qs ++ sign 41 ∷ [])) a refl (refl, are_apart-append qs (sign 41 ∷ []) b refl (refl, tt))))
+apart-of_two : (w : List ℕ) (ps qs : List Piece) → IsName w → AreApart ps → AreApart qs
+    → AreApart (pieces_of_two w ps qs)
+apart-of_two w ps qs n a b = (
+  n,
+  refl,
+  (
+    refl,
+    are_apart-append ps (sign 44 ∷ (qs ++ sign 41 ∷ [])) a refl
+        (refl, are_apart-append qs (sign 41 ∷ []) b refl (refl, tt)),
+  ),
+)
 
 pub apart-number : (k : ℕ) → k ≤ count_limit → AreApart (digits k ∷ [])
 apart-number k h = (decimal_is_numeral k h, tt, tt)
 
 -- further members of a fixed order, and its closing bracket
-apart-members : (before order : List ℕ) → order_fault_after before order ≡ None → AreApart (more_pieces order ++ sign 93 ∷ [])
+apart-members : (before order : List ℕ) → order_fault_after before order ≡ None → AreApart (more_pieces order ++ sign 93
+    ∷ [])
 apart-members before [] h = (refl, tt)
 apart-members before (x ∷ order) h =
-    let good = no_fault (nat_le 1 x && nat_le x member_limit) (list_any (λ y. nat_eq y x) before) Repeated OutOfRange (order_fault_after (before ++ x ∷ []) order) h in
-    (refl, (decimal_is_numeral x (omega (arith, member_is_small x good.0)), members_begin order, apart-members (before ++ x ∷ []) order good.2)) where
+    let good = no_fault (nat_le 1 x && nat_le x member_limit) (list_any (λ y. nat_eq y x) before) Repeated OutOfRange
+    (order_fault_after (before ++ x ∷ []) order) h in (
+      refl,
+      (
+        decimal_is_numeral x (omega (arith, member_is_small x good.0)),
+        members_begin order,
+        apart-members
+            (before ++ x ∷ []) order good.2,
+      ),
+    ) where
       members_begin : (order : List ℕ) → BeginsApart (more_pieces order ++ sign 93 ∷ [])
       members_begin [] = refl
       members_begin (y ∷ order) = refl
 
-apart-ordered : (w : List ℕ) (k : ℕ) (order : List ℕ) → IsName w → IsCount k → order_fault_after [] order ≡ None → AreApart (ordered_pieces w k order)
+apart-ordered : (w : List ℕ) (k : ℕ) (order : List ℕ) → IsName w → IsCount k → order_fault_after [] order ≡ None
+    → AreApart (ordered_pieces w k order)
 apart-ordered w k [] n c h = apart-of w (digits k ∷ []) n (apart-number k c.few)
 apart-ordered w k (x ∷ order) n c h =
-    apart-of_two w (digits k ∷ []) (sign 91 ∷ digits x ∷ (more_pieces order ++ sign 93 ∷ [])) n (apart-number k c.few) (refl, (apart-members [] (x ∷ order) h).1)
+    apart-of_two w (digits k ∷ []) (sign 91 ∷ digits x ∷ (more_pieces order ++ sign 93 ∷ [])) n (apart-number k c.few)
+    (refl, (apart-members [] (x ∷ order) h).1)
 
 score_text-name : (s : Score) → IsName (score_text s)
 score_text-name score.Plurality = (refl, refl)
@@ -277,16 +321,21 @@ apart-leaf (Upto s) r = apart-eliminator (codes "upto") s (refl, refl)
 pub apart-term : (t : Tree) → IsInRange t → AreApart (term_pieces t)
 apart-term (leaf l) r = apart-leaf l r
 apart-term (rev part) r = apart-of (codes "rev") (term_pieces part) (refl, refl) (apart-term part r)
-apart-term (seq first second) r = apart-of_two (codes "seq") (term_pieces first) (term_pieces second) (refl, refl) (apart-term first r.0) (apart-term second r.1)
-apart-term (par first second) r = apart-of_two (codes "par") (term_pieces first) (term_pieces second) (refl, refl) (apart-term first r.0) (apart-term second r.1)
-apart-term (loop (exactly k) body) r = apart-of_two (codes "loop") (digits k ∷ []) (term_pieces body) (refl, refl) (apart-number k r.0.few) (apart-term body r.1)
-apart-term (loop (at_most k) body) r = apart-of_two (codes "until") (digits k ∷ []) (term_pieces body) (refl, refl) (apart-number k r.0.few) (apart-term body r.1)
+apart-term (seq first second) r = apart-of_two (codes "seq") (term_pieces first) (term_pieces second) (refl, refl)
+    (apart-term first r.0) (apart-term second r.1)
+apart-term (par first second) r = apart-of_two (codes "par") (term_pieces first) (term_pieces second) (refl, refl)
+    (apart-term first r.0) (apart-term second r.1)
+apart-term (loop (exactly k) body) r = apart-of_two (codes "loop") (digits k ∷ []) (term_pieces body) (refl, refl)
+    (apart-number k r.0.few) (apart-term body r.1)
+apart-term (loop (at_most k) body) r = apart-of_two (codes "until") (digits k ∷ []) (term_pieces body) (refl, refl)
+    (apart-number k r.0.few) (apart-term body r.1)
 
 -- ---- the text of a term is that of its pieces
 
 pub pieces_text-append : (ps qs : List Piece) → pieces_text (ps ++ qs) ≡ pieces_text ps ++ pieces_text qs
 pieces_text-append [] qs = refl
-pieces_text-append (p ∷ ps) qs = ap (λ x. piece_text p ++ x) (pieces_text-append ps qs) ∙ sym (append_assoc (piece_text p) (pieces_text ps) (pieces_text qs))
+pieces_text-append (p ∷ ps) qs = ap (λ x. piece_text p ++ x) (pieces_text-append ps qs)
+    ∙ sym (append_assoc (piece_text p) (pieces_text ps) (pieces_text qs))
 
 text-members : (order : List ℕ) → more_text order ≡ pieces_text (more_pieces order)
 text-members [] = refl
@@ -308,13 +357,16 @@ text-bracket : (d ms : List ℕ) (ps : List Piece) → ms ≡ pieces_text ps →
     ((d ++ ms) ++ 93 ∷ []) ++ 41 ∷ [] ≡ d ++ pieces_text ((ps ++ sign 93 ∷ []) ++ sign 41 ∷ [])
 text-bracket d ms ps e =
     ap (λ y. y ++ 41 ∷ []) (append_assoc d ms (93 ∷ [])) ∙ append_assoc d (ms ++ 93 ∷ []) (41 ∷ [])
-    ∙ ap (λ y. d ++ y) (ap (λ y. y ++ 41 ∷ []) (ap (λ y. y ++ 93 ∷ []) e ∙ sym (pieces_text-append ps (sign 93 ∷ []))) ∙ sym (pieces_text-append (ps ++ sign 93 ∷ []) (sign 41 ∷ [])))
+    ∙ ap (λ y. d ++ y) (ap (λ y. y ++ 41 ∷ []) (ap (λ y. y ++ 93 ∷ []) e ∙ sym (pieces_text-append ps (sign 93 ∷ [])))
+    ∙ sym (pieces_text-append (ps ++ sign 93 ∷ []) (sign 41 ∷ [])))
 
-text-ordered : (w : List ℕ) (k : ℕ) (order : List ℕ) → w ++ (40 ∷ ((decimal k ++ order_text order) ++ 41 ∷ [])) ≡ pieces_text (ordered_pieces w k order)
+text-ordered : (w : List ℕ) (k : ℕ) (order : List ℕ) → w ++ (40 ∷ ((decimal k ++ order_text order) ++ 41 ∷ []))
+    ≡ pieces_text (ordered_pieces w k order)
 text-ordered w k [] = ap (λ y. w ++ (40 ∷ (y ++ 41 ∷ []))) (append-nil (decimal k))
 text-ordered w k (x ∷ order) =
     ap (λ y. w ++ (40 ∷ y)) (append_assoc (decimal k) (order_text (x ∷ order)) (41 ∷ [])
-    ∙ ap (λ y. decimal k ++ 44 ∷ 91 ∷ y) (text-bracket (decimal x) (more_text order) (more_pieces order) (text-members order)))
+    ∙ ap (λ y. decimal k ++ 44 ∷ 91 ∷ y) (text-bracket (decimal x) (more_text order) (more_pieces order)
+    (text-members order)))
 
 text-leaf : (l : Leaf) → leaf_text l ≡ pieces_text (leaf_pieces l)
 text-leaf Elect = refl
@@ -331,21 +383,27 @@ pub text-term : (t : Tree) → term_text t ≡ pieces_text (term_pieces t)
 text-term (leaf l) = text-leaf l
 text-term (rev part) = ap (λ y. codes "rev(" ++ y) (text-of (term_text part) (term_pieces part) (text-term part))
 text-term (seq first second) =
-    ap (λ y. codes "seq(" ++ y) (text-of_two (term_text first) (term_text second) (term_pieces first) (term_pieces second) (text-term first) (text-term second))
+    ap (λ y. codes "seq(" ++ y) (text-of_two (term_text first) (term_text second) (term_pieces first)
+    (term_pieces second) (text-term first) (text-term second))
 text-term (par first second) =
-    ap (λ y. codes "par(" ++ y) (text-of_two (term_text first) (term_text second) (term_pieces first) (term_pieces second) (text-term first) (text-term second))
+    ap (λ y. codes "par(" ++ y) (text-of_two (term_text first) (term_text second) (term_pieces first)
+    (term_pieces second) (text-term first) (text-term second))
 text-term (loop (exactly k) body) =
-    ap (λ y. codes "loop(" ++ y) (two_in_a_row (decimal k) (term_text body) ∙ ap (λ z. decimal k ++ 44 ∷ z) (text-of (term_text body) (term_pieces body) (text-term body)))
+    ap (λ y. codes "loop(" ++ y) (two_in_a_row (decimal k) (term_text body) ∙ ap (λ z. decimal k ++ 44 ∷ z)
+    (text-of (term_text body) (term_pieces body) (text-term body)))
 text-term (loop (at_most k) body) =
-    ap (λ y. codes "until(" ++ y) (two_in_a_row (decimal k) (term_text body) ∙ ap (λ z. decimal k ++ 44 ∷ z) (text-of (term_text body) (term_pieces body) (text-term body)))
+    ap (λ y. codes "until(" ++ y) (two_in_a_row (decimal k) (term_text body) ∙ ap (λ z. decimal k ++ 44 ∷ z)
+    (text-of (term_text body) (term_pieces body) (text-term body)))
 
 -- the tokens of a term that stands in a text
 pub tokens-term : (t : Tree) (before after : List ℕ) → IsInRange t → run is_word_byte after ≡ 0 →
     (tokens : List Token) × SayAll (before ++ (term_text t ++ after)) (term_pieces t) tokens
-    × (tokens_from 0 (length before) (term_text t ++ after) ≡ with_tokens tokens (tokens_from 0 (length before + length (term_text t)) after))
+    × (tokens_from 0 (length before) (term_text t ++ after)
+    ≡ with_tokens tokens (tokens_from 0 (length before + length (term_text t)) after))
 tokens-term t before after r ends =
     let same = text-term t in
-    let found = pieces_are_found (before ++ (term_text t ++ after)) after ends (term_pieces t) (apart-term t r) before (ap (λ y. before ++ (y ++ after)) same) in (
+    let found = pieces_are_found (before ++ (term_text t ++ after)) after ends (term_pieces t) (apart-term t r) before
+    (ap (λ y. before ++ (y ++ after)) same) in (
       found.0,
       found.1,
       ap (λ y. tokens_from 0 (length before) (y ++ after)) same ∙ found.2

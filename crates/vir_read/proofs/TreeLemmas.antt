@@ -1,5 +1,6 @@
 -- The first of the tokens that are left.
-use Rattle.std.proofs.Common.{◌≡◌, ℕ, zero, suc, List, [], ◌∷◌, drop, get_or, slice_get, option_map, Option, Some, None, refl}
+use Rattle.std.proofs.Common.{◌≡◌, ℕ, zero, suc, List, [], ◌∷◌, drop, get_or, slice_get, option_map, Option, Some, None}
+use Rattle.std.proofs.Common.{refl}
 use Rattle.vir_read.specs.declared.token.Token.{Token}
 use Rattle.vir_read.specs.declared.token.TokenKind.TheVariants as kind
 use Rattle.vir_read.specs.declared.symbol.Symbol.{Symbol}
@@ -18,7 +19,8 @@ front_symbol text (t ∷ rest) = Some (symbol text t)
 abbrev pub symbol_at : List ℕ → List Token → ℕ → Option Symbol
 symbol_at text list at = option_map (λ t. symbol text t) (slice_get list at)
 
-pub symbol_at-front : (text : List ℕ) (list : List Token) (at : ℕ) → symbol_at text list at ≡ front_symbol text (drop at list)
+pub symbol_at-front : (text : List ℕ) (list : List Token) (at : ℕ) → symbol_at text list at
+    ≡ front_symbol text (drop at list)
 symbol_at-front text [] zero = refl
 symbol_at-front text [] (suc at) = refl
 symbol_at-front text (t ∷ list) zero = refl

@@ -1,11 +1,13 @@
 -- The arguments that are no terms: numbers, fixed orders and scores.
-use Rattle.std.specs.Prelude.{◌≡◌, ℕ, ◌+◌, ◌-◌, ◌*◌, Bool, true, false, ◌&&◌, ◌||◌, List, [], ◌∷◌, ◌++◌, take, drop, Option, Some, None, Ok, Err, is_some, if◌then◌else◌, nat_le, nat_eq}
+use Rattle.std.specs.Prelude.{◌≡◌, ℕ, ◌+◌, ◌-◌, ◌*◌, Bool, true, false, ◌&&◌, ◌||◌, List, [], ◌∷◌, ◌++◌, take, drop}
+use Rattle.std.specs.Prelude.{Option, Some, None, Ok, Err, is_some, if◌then◌else◌, nat_le, nat_eq}
 use Rattle.std.specs.List.{list_any}
 use Rattle.vir_term.specs.declared.score.Score.{Score}
 use Rattle.vir_term.specs.Orders.{member_limit}
 use Rattle.vir_term.specs.Limits.{count_limit, IsWithinLimits}
 use Rattle.vir_term.specs.Tree.{Tree}
-use Rattle.vir_read.specs.declared.text_fault.TextKind.TheVariants.{UnknownName, WrongCountOfArguments, WrongSort, BadNumber, RepeatedInOrder}
+use Rattle.vir_read.specs.declared.text_fault.TextKind.TheVariants.{UnknownName, WrongCountOfArguments, WrongSort}
+use Rattle.vir_read.specs.declared.text_fault.TextKind.TheVariants.{BadNumber, RepeatedInOrder}
 use Rattle.vir_read.specs.Faults.{OrFault, ◌>>=◌, fault}
 use Rattle.vir_read.specs.RawTrees.{RawTree, RawTrees, word, number, bracket, none, more, list_of}
 use Rattle.vir_read.specs.BuiltIns.{score_named, built_in_named}
@@ -43,11 +45,13 @@ count_of text (bracket start members) = Err (fault WrongSort start)
 
 -- a member behind these, where it isn't one of them
 abbrev pub unrepeated : ℕ → List ℕ → ℕ → OrFault (List ℕ)
-unrepeated at before n = if list_any (λ y. nat_eq y n) before then Err (fault RepeatedInOrder at) else Ok (before ++ n ∷ [])
+unrepeated at before n = if list_any (λ y. nat_eq y n) before then Err (fault RepeatedInOrder at)
+    else Ok (before ++ n ∷ [])
 
 -- one more member of a fixed order
 abbrev pub with_member : List ℕ → List ℕ → RawTree → OrFault (List ℕ)
-with_member text before (number start end) = ranged member_limit start (value_at text start end) >>= unrepeated start before
+with_member text before (number start end) = ranged member_limit start (value_at text start end)
+    >>= unrepeated start before
 with_member text before (word start end parts) = Err (fault WrongSort start)
 with_member text before (bracket start members) = Err (fault WrongSort start)
 
@@ -78,6 +82,7 @@ as_score at (more _ _) known (Some s) = Err (fault WrongCountOfArguments at)
 
 -- Where a score is wanted.
 abbrev pub score_argument : List ℕ → Names → RawTree → OrFault Score
-score_argument text names (word start end parts) = as_score start parts (is_known names (span text start end)) (score_named (span text start end))
+score_argument text names (word start end parts) = as_score start parts (is_known names (span text start end))
+    (score_named (span text start end))
 score_argument text names (number start end) = Err (fault WrongSort start)
 score_argument text names (bracket start members) = Err (fault WrongSort start)

@@ -5,7 +5,8 @@
 use Rattle.std.specs.Prelude.{ℕ, zero, suc, List, [], ◌∷◌, length, Option, Some, None, Ok, Err, if◌then◌else◌}
 use Rattle.vir_read.specs.declared.token.Token.{Token}
 use Rattle.vir_read.specs.declared.symbol.Symbol.{Symbol}
-use Rattle.vir_read.specs.declared.symbol.Symbol.TheVariants.{Word, Number, OpenParenthesis, CloseParenthesis, OpenBracket, CloseBracket, Comma}
+use Rattle.vir_read.specs.declared.symbol.Symbol.TheVariants.{Word, Number, OpenParenthesis, CloseParenthesis}
+use Rattle.vir_read.specs.declared.symbol.Symbol.TheVariants.{OpenBracket, CloseBracket, Comma}
 use Rattle.vir_read.specs.declared.text_fault.TextKind.TheVariants.{Unexpected, TooDeep}
 use Rattle.vir_read.specs.declared.tree_reader.Separator.{Separator}
 use Rattle.vir_read.specs.declared.tree_reader.Separator.TheVariants as separator
@@ -60,7 +61,8 @@ goes_on first further rest separator.Close = Ok (more first none, rest)
 abbrev pub members : List ℕ → Symbol → Reads → ℕ → List Token → Read RawTrees
 members text close tree zero tokens = unexpected text tokens
 members text close tree (suc most) tokens =
-    tree tokens >>= λ first. separator_of text close first.1 >>= λ s. goes_on first.0 (members text close tree most) s.1 s.0
+    tree tokens >>= λ first. separator_of text close first.1 >>= λ s. goes_on first.0 (members text close tree most) s.1
+    s.0
 
 -- ---- numbers in brackets
 
@@ -80,7 +82,8 @@ in_brackets text (t ∷ rest) = bracket_then text t rest (symbol text t)
 -- ---- trees
 
 abbrev pub word_then : List ℕ → Option Reads → Token → Token → List Token → Symbol → Read RawTree
-word_then text inside t s rest OpenParenthesis = opened s.start inside (λ tree. members text CloseParenthesis tree (length rest) rest >>= λ found. Ok (word t.start t.end found.0, found.1))
+word_then text inside t s rest OpenParenthesis = opened s.start inside (λ tree. members text CloseParenthesis tree
+    (length rest) rest >>= λ found. Ok (word t.start t.end found.0, found.1))
 word_then text inside t s rest _ = Ok (word t.start t.end none, s ∷ rest)
 
 -- a word may have trees in parentheses behind it
@@ -91,7 +94,8 @@ behind_word text inside t (s ∷ rest) = word_then text inside t s rest (symbol 
 abbrev pub tree_at : List ℕ → Option Reads → Token → List Token → Symbol → Read RawTree
 tree_at text inside t rest Word = behind_word text inside t rest
 tree_at text inside t rest Number = Ok (number t.start t.end, rest)
-tree_at text inside t rest OpenBracket = opened t.start inside (λ _. in_brackets text rest >>= λ found. Ok (bracket t.start found.0, found.1))
+tree_at text inside t rest OpenBracket = opened t.start inside (λ _. in_brackets text rest >>= λ found.
+    Ok (bracket t.start found.0, found.1))
 tree_at text inside t rest _ = unexpected text (t ∷ rest)
 
 -- a tree, where what stands inside of a sign is read so, if one more sign may be left unclosed

@@ -1,7 +1,11 @@
 -- The names of the kinds of faults.
 use Rattle.std.specs.Prelude.{ℕ, List, codes}
 use Rattle.vir_read.specs.declared.text_fault.TextKind.{TextKind}
-use Rattle.vir_read.specs.declared.text_fault.TextKind.TheVariants.{BadByte, Unexpected, UnknownName, WrongCountOfArguments, WrongSort, BadNumber, RepeatedInOrder, TooDeep, TooLarge, TextTooLong, NameTwice, EmptyBook, BadHeader, UnknownRule, TrailingText}
+use Rattle.vir_read.specs.declared.text_fault.TextKind.TheVariants.{BadByte, Unexpected, UnknownName}
+use Rattle.vir_read.specs.declared.text_fault.TextKind.TheVariants.{WrongCountOfArguments, WrongSort, BadNumber}
+use Rattle.vir_read.specs.declared.text_fault.TextKind.TheVariants.{RepeatedInOrder, TooDeep, TooLarge, TextTooLong}
+use Rattle.vir_read.specs.declared.text_fault.TextKind.TheVariants.{NameTwice, EmptyBook, BadHeader, UnknownRule}
+use Rattle.vir_read.specs.declared.text_fault.TextKind.TheVariants.{TrailingText}
 
 -- the name of a kind
 abbrev pub kind_name : TextKind → List ℕ

@@ -1,7 +1,8 @@
 -- What a printed term is made of, and which tokens of a text say it.
 use Rattle.std.specs.Prelude.{ℕ, ◌≡◌, List, [], ◌∷◌, ◌++◌, Some, ⊤, codes, decimal, slice_get}
 use Rattle.vir_term.specs.declared.leaf.Leaf.{Leaf}
-use Rattle.vir_term.specs.declared.leaf.Leaf.TheVariants.{Elect, Defer, PassFirst, DropFirst, Plurality, Max, Min, Below, Upto}
+use Rattle.vir_term.specs.declared.leaf.Leaf.TheVariants.{Elect, Defer, PassFirst, DropFirst, Plurality, Max, Min}
+use Rattle.vir_term.specs.declared.leaf.Leaf.TheVariants.{Below, Upto}
 use Rattle.vir_term.specs.Text.{score_text}
 use Rattle.vir_read.specs.BuiltIns.{loop_name}
 use Rattle.vir_term.specs.Tree.{Tree, leaf, rev, seq, par, loop, number_of}
@@ -53,7 +54,8 @@ more_pieces (x ∷ rest) = sign 44 ∷ digits x ∷ more_pieces rest
 -- a word with a number and a fixed order, which is left out where it is empty
 abbrev pub ordered_pieces : List ℕ → ℕ → List ℕ → List Piece
 ordered_pieces word k [] = pieces_of word (digits k ∷ [])
-ordered_pieces word k (x ∷ rest) = pieces_of_two word (digits k ∷ []) (sign 91 ∷ digits x ∷ (more_pieces rest ++ sign 93 ∷ []))
+ordered_pieces word k (x ∷ rest) = pieces_of_two word (digits k ∷ []) (sign 91 ∷ digits x
+    ∷ (more_pieces rest ++ sign 93 ∷ []))
 
 -- a module
 abbrev pub leaf_pieces : Leaf → List Piece

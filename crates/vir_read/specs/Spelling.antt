@@ -2,7 +2,8 @@
 use Rattle.std.specs.Prelude.{ℕ, ◌≡◌, List, [], ◌∷◌, ⊤, codes, decimal}
 use Rattle.vir_term.specs.declared.score.Score.{Score}
 use Rattle.vir_term.specs.declared.leaf.Leaf.{Leaf}
-use Rattle.vir_term.specs.declared.leaf.Leaf.TheVariants.{Elect, Defer, PassFirst, DropFirst, Plurality, Max, Min, Below, Upto}
+use Rattle.vir_term.specs.declared.leaf.Leaf.TheVariants.{Elect, Defer, PassFirst, DropFirst, Plurality, Max, Min}
+use Rattle.vir_term.specs.declared.leaf.Leaf.TheVariants.{Below, Upto}
 use Rattle.vir_term.specs.Text.{score_text}
 use Rattle.vir_term.specs.Tree.{Tree, leaf, rev, seq, par, loop, number_of}
 use Rattle.vir_read.specs.BuiltIns.{loop_name}

@@ -4,7 +4,8 @@ use Rattle.vir_read.specs.declared.token.Token.{Token}
 use Rattle.vir_read.specs.declared.token.TokenKind.{TokenKind}
 use Rattle.vir_read.specs.declared.token.TokenKind.TheVariants as kind
 use Rattle.vir_read.specs.declared.symbol.Symbol.{Symbol}
-use Rattle.vir_read.specs.declared.symbol.Symbol.TheVariants.{Word, Number, OpenParenthesis, CloseParenthesis, OpenBracket, CloseBracket, Comma, Semicolon, Equals}
+use Rattle.vir_read.specs.declared.symbol.Symbol.TheVariants.{Word, Number, OpenParenthesis, CloseParenthesis}
+use Rattle.vir_read.specs.declared.symbol.Symbol.TheVariants.{OpenBracket, CloseBracket, Comma, Semicolon, Equals}
 
 -- which of the seven signs a byte is: ( ) [ ] , ; or, the last one, =
 abbrev pub sign_symbol : ℕ → Symbol

@@ -1,5 +1,6 @@
 -- The tokens of a text.
-use Rattle.std.specs.Prelude.{ℕ, zero, suc, ◌+◌, Bool, not, ◌||◌, ◌&&◌, ◌==◌, nat_lt, nat_le, if◌then◌else◌, List, [], ◌∷◌, Ok, Err}
+use Rattle.std.specs.Prelude.{ℕ, zero, suc, ◌+◌, Bool, not, ◌||◌, ◌&&◌, ◌==◌, nat_lt, nat_le, if◌then◌else◌, List, []}
+use Rattle.std.specs.Prelude.{◌∷◌, Ok, Err}
 use Rattle.vir_read.specs.declared.token.Token.{Token}
 use Rattle.vir_read.specs.declared.token.TokenKind.{TokenKind}
 use Rattle.vir_read.specs.declared.token.TokenKind.TheVariants.{Word, Number, Sign}
@@ -56,8 +57,10 @@ tokens_from (suc inside) at (b ∷ rest) = tokens_from inside (at + 1) rest
 tokens_from zero at (b ∷ rest) =
     if is_blank b then tokens_from 0 (at + 1) rest
     else (if is_comment_sign b then tokens_from (run is_comment_byte rest) (at + 1) rest
-    else (if is_letter b then with_token (token Word at (at + 1 + run is_word_byte rest)) (tokens_from (run is_word_byte rest) (at + 1) rest)
-    else (if is_digit b then with_token (token Number at (at + 1 + run is_digit rest)) (tokens_from (run is_digit rest) (at + 1) rest)
+    else (if is_letter b then with_token (token Word at (at + 1 + run is_word_byte rest))
+    (tokens_from (run is_word_byte rest) (at + 1) rest)
+    else (if is_digit b then with_token (token Number at (at + 1 + run is_digit rest))
+    (tokens_from (run is_digit rest) (at + 1) rest)
     else (if is_sign b then with_token (token Sign at (at + 1)) (tokens_from 0 (at + 1) rest)
     else Err (fault BadByte at)))))
 

@@ -5,7 +5,8 @@ use Rattle.vir_term.specs.declared.leaf.Leaf.{Leaf}
 use Rattle.vir_term.specs.declared.leaf.Leaf.TheVariants as leaf'
 use Rattle.vir_term.specs.Tree.{Tree, leaf, rev, seq, par, loop, End, exactly, at_most, nesting, size}
 use Rattle.vir_term.specs.Limits.{nesting_limit, size_limit}
-use Rattle.vir_read.specs.declared.text_fault.TextKind.TheVariants.{UnknownName, WrongCountOfArguments, WrongSort, TooDeep, TooLarge}
+use Rattle.vir_read.specs.declared.text_fault.TextKind.TheVariants.{UnknownName, WrongCountOfArguments, WrongSort}
+use Rattle.vir_read.specs.declared.text_fault.TextKind.TheVariants.{TooDeep, TooLarge}
 use Rattle.vir_read.specs.declared.built_in.BuiltIn.{BuiltIn}
 use Rattle.vir_read.specs.declared.built_in.BuiltIn.TheVariants as word'
 use Rattle.vir_read.specs.declared.built_in.Plain.{Plain}
@@ -54,14 +55,17 @@ end_of loop_end.AtMost k = at_most k
 -- The arguments are judged from left to right, each whole before the next. A term among them stands a level below.
 abbrev pub composition_of : List ℕ → Names → ℕ → ℕ → BuiltIn → List Argument → OrFault Tree
 composition_of text names at level (word'.Plain m) [] = Ok (leaf (plain_leaf m))
-composition_of text names at level (word'.Ordered m) (k ∷ []) = count_of text k.tree >>= λ k. Ok (leaf (ordered_leaf m k []))
+composition_of text names at level (word'.Ordered m) (k ∷ []) = count_of text k.tree >>= λ k.
+    Ok (leaf (ordered_leaf m k []))
 composition_of text names at level (word'.Ordered m) (k ∷ o ∷ []) =
     count_of text k.tree >>= λ k. order_of text o.tree >>= λ order. Ok (leaf (ordered_leaf m k order))
-composition_of text names at level (word'.Eliminator m) (s ∷ []) = score_argument text names s.tree >>= λ s. Ok (leaf (eliminator_leaf m s))
+composition_of text names at level (word'.Eliminator m) (s ∷ []) = score_argument text names s.tree >>= λ s.
+    Ok (leaf (eliminator_leaf m s))
 composition_of text names at level word'.Rev (m ∷ []) = m.term (level + 1) >>= λ m. Ok (rev m)
 composition_of text names at level (word'.Pair composition) (m ∷ n ∷ []) =
     m.term (level + 1) >>= λ first. n.term (level + 1) >>= λ second. Ok (pair_tree composition first second)
-composition_of text names at level (word'.Loop end) (k ∷ m ∷ []) = count_of text k.tree >>= λ k. m.term (level + 1) >>= λ body. Ok (loop (end_of end k) body)
+composition_of text names at level (word'.Loop end) (k ∷ m ∷ []) = count_of text k.tree >>= λ k. m.term (level + 1)
+    >>= λ body. Ok (loop (end_of end k) body)
 composition_of text names at level _ _ = Err (fault WrongCountOfArguments at)
 
 -- A built-in word: first it must be no score, then have as many arguments as it takes, then be not too deep.
@@ -90,11 +94,13 @@ abbrev mutual
   term_at text names (number start end) level = Err (fault WrongSort start)
   term_at text names (bracket start members) level = Err (fault WrongSort start)
   term_at text names (word start end parts) level =
-      word_term text names start level (span text start end) (arguments_of text names parts) (built_in_named (span text start end))
+      word_term text names start level (span text start end) (arguments_of text names parts)
+      (built_in_named (span text start end))
 
   pub arguments_of : List ℕ → Names → RawTrees → List Argument
   arguments_of text names none = []
-  arguments_of text names (more t rest) = record { tree = t; term = λ level. term_at text names t level } ∷ arguments_of text names rest
+  arguments_of text names (more t rest) = record { tree = t; term = λ level. term_at text names t level }
+      ∷ arguments_of text names rest
 
 -- a term that isn't too large
 abbrev pub check_size : ℕ → Tree → OrFault Tree

@@ -5,7 +5,8 @@ ghost use Rattle.vir_term.specs.Orders.{order_fault};
 ghost use Rattle.vir_read.specs.Faults.{Gives};
 ghost use Rattle.vir_read.specs.RawTrees.{raw_tree, listed, gathered};
 ghost use Rattle.vir_read.specs.BuiltIns.{score_named};
-ghost use Rattle.vir_read.specs.Arguments.{span, value_after, value_at, ranged, count_of, with_member, with_members, order_of, is_known, as_score, score_argument};
+ghost use Rattle.vir_read.specs.Arguments.{span, value_after, value_at, ranged, count_of, with_member, with_members};
+ghost use Rattle.vir_read.specs.Arguments.{order_of, is_known, as_score, score_argument};
 
 use crate::built_in::{built_in_named, score_named};
 use crate::names::Names;
@@ -128,7 +129,8 @@ fn score_word<M: Names>(
     at: usize,
     parts: &RawList,
 ) -> Result<Score, TextError>
-    ensures { Gives (λ score. score) result (as_score at (gathered (listed parts.now)) (is_known (M.meaning names.now) name.now) (score_named name.now)) }
+    ensures { Gives (λ score. score) result (as_score at (gathered (listed parts.now))
+        (is_known (M.meaning names.now) name.now) (score_named name.now)) }
 {
     match score_named(name) {
         Some(score) if parts.is_empty() => Ok(score),

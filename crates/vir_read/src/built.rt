@@ -145,7 +145,8 @@ pub fn one(parts: &RawList) -> Option<&Raw>
 // The two trees of a list, where these are two.
 #[tactic(auto, using(crate::proofs::TypingLemmas::two_of, crate::proofs::TypingLemmas::not_gone))]
 pub fn two(parts: &RawList) -> Option<(&Raw, &Raw)>
-    ensures { MatchOption result (length (listed parts.now) ≡ 2 → ⊥) (λ raws. listed parts.now ≡ raw_tree raws.0.now ∷ raw_tree raws.1.now ∷ []) }
+    ensures { MatchOption result (length (listed parts.now) ≡ 2 → ⊥) (λ raws. listed parts.now ≡ raw_tree raws.0.now
+        ∷ raw_tree raws.1.now ∷ []) }
 {
     if parts.len() != 2 {
         return None;

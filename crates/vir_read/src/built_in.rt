@@ -1,7 +1,8 @@
 // The words that are built in.
 ghost use Rattle.std.specs.Prelude.{◌≡◌};
 ghost use Rattle.std.specs.Str.{bytes_eq};
-ghost use Rattle.vir_read.specs.BuiltIns.{score_named, only_score, composition_named, module_named, built_in_named, takes, is_only_score};
+ghost use Rattle.vir_read.specs.BuiltIns.{score_named, only_score, composition_named, module_named, built_in_named};
+ghost use Rattle.vir_read.specs.BuiltIns.{takes, is_only_score};
 
 use vir_term::Score;
 

@@ -1,7 +1,8 @@
 // The tokens of a text, read from the left.
 ghost use Rattle.std.specs.Prelude.{◌≡◌, ◌<◌, ◌≤◌, ◌++◌, length, option_to_list, OnOk};
 ghost use Rattle.vir_read.specs.Faults.{Gives};
-ghost use Rattle.vir_read.specs.Tokens.{is_blank, is_comment_byte, is_comment_sign, is_digit, is_letter, is_sign, is_word_byte, run, tokens_of};
+ghost use Rattle.vir_read.specs.Tokens.{is_blank, is_comment_byte, is_comment_sign, is_digit, is_letter, is_sign};
+ghost use Rattle.vir_read.specs.Tokens.{is_word_byte, run, tokens_of};
 ghost use Rattle.vir_read.specs.Steps.{StepsFrom};
 
 use crate::text_fault::{TextError, TextFault, TextKind};

@@ -103,7 +103,8 @@ fn read_separator(
 
 // A number at an index.
 fn read_number(text: &[u8], list: &[Token], at: usize) -> Result<RawEnd, TextError>
-    ensures tree { Gives (λ end. (raw_tree end.raw, drop end.next list.now)) result (numeral_of text.now (drop at list.now)) }
+    ensures tree { Gives (λ end. (raw_tree end.raw, drop end.next list.now)) result
+        (numeral_of text.now (drop at list.now)) }
     ensures forward { IfOk result (λ end. (at < end.next) × (end.next ≤ length list.now)) }
 {
     let Token { start, end, .. } = read_symbol(text, list, at, Symbol::Number)?;
@@ -123,7 +124,8 @@ fn read_member(
     kind: Members,
 ) -> Result<RawEnd, TextError>
     requires { at ≤ length list.now }
-    ensures tree { Gives (λ end. (raw_tree end.raw, drop end.next list.now)) result (member_of text.now kind (drop at list.now)) }
+    ensures tree { Gives (λ end. (raw_tree end.raw, drop end.next list.now)) result
+        (member_of text.now kind (drop at list.now)) }
     ensures forward { IfOk result (λ end. (at < end.next) × (end.next ≤ length list.now)) }
 {
     match kind {
@@ -226,7 +228,8 @@ fn read_brackets(
     from: usize,
 ) -> Result<ListEnd, TextError>
     requires { from ≤ length list.now }
-    ensures members { Gives (λ end. (gathered (listed end.trees), drop end.next list.now)) result (in_brackets text.now (drop from list.now)) }
+    ensures members { Gives (λ end. (gathered (listed end.trees), drop end.next list.now)) result
+        (in_brackets text.now (drop from list.now)) }
     ensures forward { IfOk result (λ end. (from < end.next) × (end.next ≤ length list.now)) }
 {
     if is_symbol(text, list, from, Symbol::CloseBracket) {
@@ -279,7 +282,8 @@ fn read_tree(
     room: u32,
 ) -> Result<RawEnd, TextError>
     requires { from ≤ length list.now }
-    ensures tree { Gives (λ end. (raw_tree end.raw, drop end.next list.now)) result (tree_within text.now room (drop from list.now)) }
+    ensures tree { Gives (λ end. (raw_tree end.raw, drop end.next list.now)) result
+        (tree_within text.now room (drop from list.now)) }
     ensures forward { IfOk result (λ end. (from < end.next) × (end.next ≤ length list.now)) }
 {
     if from == list.len() {
@@ -310,7 +314,8 @@ pub fn read_raw(
     from: usize,
 ) -> Result<RawEnd, TextError>
     requires { from ≤ length list.now }
-    ensures tree { Gives (λ end. (raw_tree end.raw, drop end.next list.now)) result (tree_of text.now (drop from list.now)) }
+    ensures tree { Gives (λ end. (raw_tree end.raw, drop end.next list.now)) result
+        (tree_of text.now (drop from list.now)) }
     ensures forward { IfOk result (λ end. (from < end.next) × (end.next ≤ length list.now)) }
 {
     read_tree(alloc, text, list, from, UNCLOSED_LIMIT)

@@ -239,7 +239,8 @@ fn build_built_in<M: Names>(
 ) -> Result<Built, TextError>
     requires level { level ≤ nesting_limit + 1 }
     requires names { AreWithinLimits (M.meaning names.now) }
-    ensures { Builds result (built_in_term text.now (M.meaning names.now) at level word (arguments_of text.now (M.meaning names.now) (gathered (listed parts.now)))) }
+    ensures { Builds result (built_in_term text.now (M.meaning names.now) at level word
+        (arguments_of text.now (M.meaning names.now) (gathered (listed parts.now)))) }
 {
     if word.is_only_score() {
         return Err(TextError::fault(TextKind::WrongSort, at));
@@ -266,7 +267,8 @@ fn build_word<M: Names>(
 ) -> Result<Built, TextError>
     requires level { level ≤ nesting_limit + 1 }
     requires names { AreWithinLimits (M.meaning names.now) }
-    ensures { Builds result (word_term text.now (M.meaning names.now) at level name.now (arguments_of text.now (M.meaning names.now) (gathered (listed parts.now))) (built_in_named name.now)) }
+    ensures { Builds result (word_term text.now (M.meaning names.now) at level name.now
+        (arguments_of text.now (M.meaning names.now) (gathered (listed parts.now))) (built_in_named name.now)) }
 {
     match built_in_named(name) {
         Some(word) => build_built_in(alloc, text, word, parts, names, level, at),
@@ -354,7 +356,8 @@ pub fn type_term<M: Names>(
     names: &M,
 ) -> Result<Term, TextError>
     requires { AreWithinLimits (M.meaning names.now) }
-    ensures meant { Gives tree result (term_of text.now (M.meaning names.now) (first_place (raw_tree raw.now)) (raw_tree raw.now)) }
+    ensures meant { Gives tree result (term_of text.now (M.meaning names.now) (first_place (raw_tree raw.now))
+        (raw_tree raw.now)) }
     ensures within { IfOk result (λ term. IsWithinLimits (tree term)) }
 {
     type_term_at(alloc, text, raw, names, first_place(raw))

@@ -1,8 +1,11 @@
 // The laws of the language can be called.
-use vir_book::{printed_books_are_read, printed_rules_are_read, rules_are_within_limits};
+use vir_book::{
+    no_more_definitions_than_tokens, printed_books_are_read, printed_rules_are_read,
+    rule_files_are_so_long, rules_are_within_limits,
+};
 use vir_read::{
-    limits_are_these, pieces_are_read, printed_definitions_are_read, printed_terms_are_read, printed_terms_are_short,
-    spelled_terms_are_typed, terms_are_pieces,
+    limits_are_these, pieces_are_read, printed_definitions_are_read, printed_terms_are_read,
+    printed_terms_are_short, spelled_terms_are_typed, terms_are_pieces,
 };
 
 #[test]
@@ -21,4 +24,6 @@ fn laws_of_rule_files_can_be_called() {
     printed_rules_are_read();
     printed_books_are_read();
     rules_are_within_limits();
+    no_more_definitions_than_tokens();
+    rule_files_are_so_long();
 }

@@ -1,7 +1,7 @@
 // Tokens and trees of small texts, and where the faults of others are.
 use std::alloc::{AllocError, Global};
 use std::process::Abort;
-use vir_read::{Raw, RawEnd, TextError, TokenKind, UNCLOSED_LIMIT, read_raw, tokens};
+use vir_read::{Raw, RawEnd, TextError, TokenKind, read_raw, tokens};
 
 const COMMENTED: &[u8] = b"# a (comment\r\nseq(a_1-b, [ 20 ])\t;= 9a# end";
 
@@ -116,9 +116,9 @@ fn nested(alloc: Global, levels: u32) -> Result<Vec<u8>, AllocError> {
 
 #[test]
 fn so_many_signs_may_be_unclosed(rt: HostRuntime) -> Result<(), AllocError> {
-    let deepest = nested(rt.alloc(), UNCLOSED_LIMIT)?;
+    let deepest = nested(rt.alloc(), 80)?;
     assert!(rt; is_read(rt.alloc(), &deepest, "", 241));
-    let too_deep = nested(rt.alloc(), UNCLOSED_LIMIT + 1)?;
+    let too_deep = nested(rt.alloc(), 81)?;
     assert!(rt; is_read(rt.alloc(), &too_deep, "TooDeep", 161));
     Ok(())
 }

@@ -7,4 +7,5 @@ use Rattle.vir_book.proofs.book.add_definition.Goals as goal
 
 pub returns-clause-within : goal.returns-clause-within
 returns-clause-within c = subst AllWithinLimits (sym c.in_ok-add.ensures)
-    (within-append (entries c.args.found) (entry c.in_ok-name.name.items (tree c.in_ok-term.term)) c.requires c.in_ok-term.ensures.new.1)
+    (within-append (entries c.args.found) (entry c.in_ok-name.name.items (tree c.in_ok-term.term)) c.requires
+    c.in_ok-term.ensures.new.1)

@@ -15,10 +15,13 @@ loop-i-preserved c =
     record {
       same = ap (λ xs. with_members text xs (drop (c.loop-i.i + 1) ms)) (p ∙ ap (λ xs. xs ++ c.in-Ok.n ∷ []) (sym n))
           ∙ ap (λ r. r >>= λ xs. with_members text xs (drop (c.loop-i.i + 1) ms)) (sym c.in-Ok.ensures.exact)
-          ∙ ap (λ xs. with_member text xs (raw_tree c.in-Some.raw.now) >>= λ xs. with_members text xs (drop (c.loop-i.i + 1) ms)) n
-          ∙ sym (member_step text c.loop-i.list.items ms c.loop-i.i (raw_tree c.in-Some.raw.now) (sym c.in-Some.ensures))
+          ∙ ap (λ xs. with_member text xs (raw_tree c.in-Some.raw.now) >>= λ xs. with_members text xs
+          (drop (c.loop-i.i + 1) ms)) n
+          ∙ sym (member_step text c.loop-i.list.items ms c.loop-i.i (raw_tree c.in-Some.raw.now)
+          (sym c.in-Some.ensures))
           ∙ c.loop-i.invariant.same;
-      faultless = ap order_fault (p ∙ ap (λ xs. xs ++ c.in-Ok.n ∷ []) (sym n)) ∙ c.in-Ok.ensures.faultless (ap order_fault n ∙ c.loop-i.invariant.faultless);
+      faultless = ap order_fault (p ∙ ap (λ xs. xs ++ c.in-Ok.n ∷ []) (sym n)) ∙ c.in-Ok.ensures.faultless
+          (ap order_fault n ∙ c.loop-i.invariant.faultless);
     }
 
 pub returns-in-Err : goal.returns-in-Err
@@ -28,5 +31,6 @@ returns-in-Err c =
     let s = raw_tree c.in-Some.raw.now in
     fails_as c.in-Err.e _ _
     (sym c.loop-i.invariant.same ∙ member_step text c.loop-i.list.items ms c.loop-i.i s (sym c.in-Some.ensures)
-    ∙ ap (λ xs. with_member text xs s >>= λ xs. with_members text xs (drop (c.loop-i.i + 1) ms)) (sym c.deref.ensures.value))
+    ∙ ap (λ xs. with_member text xs s >>= λ xs. with_members text xs (drop (c.loop-i.i + 1) ms))
+    (sym c.deref.ensures.value))
     (fails_on c.in-Err.e _ (λ xs. with_members text xs (drop (c.loop-i.i + 1) ms)) c.in-Err.ensures.exact)

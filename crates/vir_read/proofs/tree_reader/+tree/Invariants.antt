@@ -31,8 +31,10 @@ decreases-read_brackets l = 2
 
 abbrev pub invariant-read_members-loop : goal.invariant-read_members-loop
 invariant-read_members-loop l = record {
-  whole : with_trees (listed l.trees) (members l.text (close_of l.fn.kind) (member_of l.text l.fn.kind) (length l.list - l.counter) (drop l.at l.list))
-      ≡ members l.text (close_of l.fn.kind) (member_of l.text l.fn.kind) (length (drop l.fn.from l.list)) (drop l.fn.from l.list);
+  whole : with_trees (listed l.trees) (members l.text (close_of l.fn.kind) (member_of l.text l.fn.kind)
+      (length l.list - l.counter) (drop l.at l.list))
+      ≡ members l.text (close_of l.fn.kind) (member_of l.text l.fn.kind) (length (drop l.fn.from l.list))
+      (drop l.fn.from l.list);
   forward : l.fn.from ≤ l.at;
   within : l.at ≤ length l.list;
 }

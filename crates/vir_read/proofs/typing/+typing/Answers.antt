@@ -8,12 +8,14 @@ pub build_composition-returns-in-Ordered : goal.build_composition-returns-in-Ord
 build_composition-returns-in-Ordered g t c = λ at.
     let names = g.M.Names.meaning c.args.names.now in
     let arguments = arguments_of c.args.text.now names (gathered (listed c.args.parts.now)) in
-    subst (λ w. Builds c.build_ordered.result (composition_of c.args.text.now names at c.args.level w arguments)) (sym c.in-Ordered.is)
+    subst (λ w. Builds c.build_ordered.result (composition_of c.args.text.now names at c.args.level w arguments))
+    (sym c.in-Ordered.is)
     (c.build_ordered.ensures names at c.args.level)
 
 pub build_composition-returns-in-Eliminator : goal.build_composition-returns-in-Eliminator
 build_composition-returns-in-Eliminator g t c = λ at.
     let names = g.M.Names.meaning c.args.names.now in
     let arguments = arguments_of c.args.text.now names (gathered (listed c.args.parts.now)) in
-    subst (λ w. Builds c.build_eliminator.result (composition_of c.args.text.now names at c.args.level w arguments)) (sym c.in-Eliminator.is)
+    subst (λ w. Builds c.build_eliminator.result (composition_of c.args.text.now names at c.args.level w arguments))
+    (sym c.in-Eliminator.is)
     (c.build_eliminator.ensures at c.args.level)

@@ -9,11 +9,13 @@ use Rattle.vir_read.specs.RawTrees.{raw_tree}
 use Rattle.vir_read.proofs.LimitLemmas.{term_of_within}
 use Rattle.vir_read.proofs.typing.type_term_at.Goals as goal
 
-accepted : (result : Result Term TextError) (meant : OrFault Tree) → Gives tree result meant → ((t : Tree) → meant ≡ Ok t → IsWithinLimits t) → IfOk result (λ (term : Term). IsWithinLimits (tree term))
+accepted : (result : Result Term TextError) (meant : OrFault Tree) → Gives tree result meant
+    → ((t : Tree) → meant ≡ Ok t → IsWithinLimits t) → IfOk result (λ (term : Term). IsWithinLimits (tree term))
 accepted (Ok term) meant h within = within (tree term) h
 accepted (Err e) meant h within = tt
 
 pub returns-clause-within : goal.returns-clause-within
 returns-clause-within g c =
     let names = g.M.Names.meaning c.args.names.now in
-    accepted c.term_in_size.result _ c.term_in_size.ensures (term_of_within c.args.text.now names c.requires c.args.at (raw_tree c.args.raw.now))
+    accepted c.term_in_size.result _ c.term_in_size.ensures (term_of_within c.args.text.now names c.requires c.args.at
+    (raw_tree c.args.raw.now))

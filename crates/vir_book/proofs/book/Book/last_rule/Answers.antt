@@ -11,4 +11,5 @@ returns-clause-within c =
     last-within-kept list (length list - 1) (tree c.in-Some.term.now) c.args.self.now.filled.within c.in-Some.ensures
 
 pub returns-clause-last : goal.returns-clause-last
-returns-clause-last c = last_term-last (entries c.args.self.now.filled.found) (tree c.in-Some.term.now) c.in-Some.ensures
+returns-clause-last c = last_term-last (entries c.args.self.now.filled.found) (tree c.in-Some.term.now)
+    c.in-Some.ensures

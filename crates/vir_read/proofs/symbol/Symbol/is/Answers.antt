@@ -2,7 +2,8 @@ use Rattle.std.proofs.Common.{◌≡◌, ◌∙◌, refl}
 use denote.Enum.Bare.{sameb}
 use Rattle.vir_read.specs.contracts.symbol.Symbol.{the_type}
 use Rattle.vir_read.specs.declared.symbol.Symbol.{Symbol}
-use Rattle.vir_read.specs.declared.symbol.Symbol.TheVariants.{Word, Number, OpenParenthesis, CloseParenthesis, OpenBracket, CloseBracket, Comma, Semicolon, Equals}
+use Rattle.vir_read.specs.declared.symbol.Symbol.TheVariants.{Word, Number, OpenParenthesis, CloseParenthesis}
+use Rattle.vir_read.specs.declared.symbol.Symbol.TheVariants.{OpenBracket, CloseBracket, Comma, Semicolon, Equals}
 use Rattle.vir_read.specs.Symbols.{is_same}
 use Rattle.vir_read.proofs.symbol.Symbol.is.Goals as goal
 
