@@ -1,3 +1,4 @@
+// Numbers of calls.
 ghost use Rattle.std.specs.Prelude.{◌≡◌};
 ghost use Rattle.vir_counter.specs.Calls.{risen};
 

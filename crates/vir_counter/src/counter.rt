@@ -1,3 +1,4 @@
+// What carries out modules and counts its calls.
 ghost use Rattle.std.specs.Prelude.{◌≡◌, true};
 ghost use Rattle.vir_altset.specs.Sets.{all, IsPart};
 ghost use Rattle.vir_profile.specs.Profiles.{restrict};

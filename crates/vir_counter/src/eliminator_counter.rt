@@ -1,9 +1,6 @@
-ghost use Rattle.std.specs.Prelude.{◌≡◌, true};
-ghost use Rattle.vir_term.specs.declared.score.Score.{Score};
-ghost use Rattle.vir_term.specs.Kinds.{kind_of};
-ghost use Rattle.vir_mean.specs.Eliminators.{eliminator};
-ghost use Rattle.vir_mean.specs.Modules.{leaf_mean};
-ghost use Rattle.vir_counter.specs.Kinds.{eliminator_kinds, has_kind};
+// The counter of eliminators.
+ghost use Rattle.std.specs.Prelude.{◌≡◌};
+ghost use Rattle.vir_counter.specs.Kinds.{eliminator_kinds};
 
 use crate::calls::one_more;
 use crate::counter::Counter;
@@ -39,18 +36,6 @@ impl<S: Scoring> EliminatorCounter<S> {
     }
 }
 
-// Which members go where this eliminator decides, whatever its score.
-fn elimination_of(leaf: &Leaf) -> Elimination
-    ensures { (score : Score) → has_kind (eliminator_kinds score) (kind_of leaf.now) ≡ true → leaf_mean leaf.now ≡ eliminator result score }
-{
-    match leaf {
-        Leaf::Max(_) => Elimination::Max,
-        Leaf::Min(_) => Elimination::Min,
-        Leaf::Below(_) => Elimination::Below,
-        _ => Elimination::Upto,
-    }
-}
-
 impl<S: Scoring> Counter for EliminatorCounter<S> {
     ghost kinds = { λ counter. eliminator_kinds counter.0 };
 
@@ -67,7 +52,14 @@ impl<S: Scoring> Counter for EliminatorCounter<S> {
 
     fn split(&mut self, leaf: &Leaf, election: &Election, domain: &AltSet) -> Split {
         self.calls = one_more(self.calls);
-        eliminate(elimination_of(leaf), &self.scoring, election, domain)
+        let scoring = &self.scoring;
+        match leaf {
+            Leaf::Max(_) => eliminate(Elimination::Max, scoring, election, domain),
+            Leaf::Min(_) => eliminate(Elimination::Min, scoring, election, domain),
+            Leaf::Below(_) => eliminate(Elimination::Below, scoring, election, domain),
+            Leaf::Upto(_) => eliminate(Elimination::Upto, scoring, election, domain),
+            _ => unreachable!(),
+        }
     }
 
     fn calls(&self) -> u64 {

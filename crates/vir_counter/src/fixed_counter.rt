@@ -1,3 +1,4 @@
+// The counter of the modules that look at no ballot and no order.
 ghost use Rattle.std.specs.Prelude.{◌≡◌};
 ghost use Rattle.std.specs.FinSet as set;
 ghost use Rattle.vir_counter.specs.Kinds.{fixed_kinds};

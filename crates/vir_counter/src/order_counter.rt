@@ -1,3 +1,4 @@
+// The counter of the modules of fixed orders.
 ghost use Rattle.std.specs.Prelude.{◌≡◌};
 ghost use Rattle.std.specs.FinSet as set;
 ghost use Rattle.vir_mean.specs.Modules.{first_passed, first_dropped};

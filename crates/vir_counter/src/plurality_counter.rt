@@ -1,3 +1,4 @@
+// The counter of the module of first places.
 ghost use Rattle.std.specs.Prelude.{◌≡◌};
 ghost use Rattle.vir_counter.specs.Kinds.{plurality_kinds};
 

@@ -1,3 +1,4 @@
+// The eliminators of a score.
 ghost use Rattle.std.specs.Prelude.{◌≡◌};
 ghost use Rattle.vir_altset.specs.Sets.{all, IsPart};
 ghost use Rattle.vir_profile.specs.Profiles.{restrict};
@@ -18,7 +19,8 @@ pub fn eliminate<S: Scoring>(
     domain: &AltSet,
 ) -> Split
     requires { IsPart domain.now (all election.now.profile.alternatives) }
-    ensures { result ≡ eliminator kind (S.named scoring.now) domain.now (restrict domain.now election.now.profile.lines) }
+    ensures { result
+        ≡ eliminator kind (S.named scoring.now) domain.now (restrict domain.now election.now.profile.lines) }
 {
     // that the number of voters is a u64 bounds the scores
     let _voters = Tally::voters(election, domain);

@@ -1,3 +1,4 @@
+// The five scores of an alternative, one function each.
 ghost use Rattle.std.specs.Prelude.{◌≡◌, true};
 ghost use Rattle.std.specs.FinSet as set;
 ghost use Rattle.vir_altset.specs.Sets.{all, IsPart};

@@ -1,16 +1,14 @@
+// A score that goes by its name.
 ghost use Rattle.std.specs.Prelude.{◌≡◌};
 
-use crate::functions::{
-    borda_score, condorcet_score, copeland_score, minimax_score, plurality_score,
-};
 use crate::scoring::Scoring;
 use std::marker::Model;
-use vir_mean::fill_scores;
+use vir_mean::{fill_scores, score_of};
 use vir_profile::AltSet;
 use vir_tables::Election;
 use vir_term::Score;
 
-/// The score of a name, by the functions of this layer. The first places of all members are added up
+/// The score of a name. The first places of all members are added up
 /// in one pass over the ballots, and the other scores go by the election's table.
 #[derive(Debug, Drop)]
 pub struct KeptScore {
@@ -42,13 +40,7 @@ impl Scoring for KeptScore {
     }
 
     fn value(&self, election: &Election, domain: &AltSet, x: u16) -> i128 {
-        match self.score {
-            Score::Plurality => plurality_score(election, domain, x),
-            Score::Borda => borda_score(election, domain, x),
-            Score::Copeland => copeland_score(election, domain, x),
-            Score::Minimax => minimax_score(election, domain, x),
-            Score::Condorcet => condorcet_score(election, domain, x),
-        }
+        score_of(self.score, election, domain, x)
     }
 
     fn fill(&self, election: &Election, domain: &AltSet, members: &[u16], scores: &mut [i128]) {

@@ -1,3 +1,4 @@
+// What gives a score.
 ghost use Rattle.std.specs.Prelude.{◌≡◌, true, length};
 ghost use Rattle.std.specs.FinSet as set;
 ghost use Rattle.vir_altset.specs.Sets.{all, limit, IsPart};
@@ -26,7 +27,8 @@ pub trait Scoring: Drop {
     fn value(&self, election: &Election, domain: &AltSet, x: u16) -> i128
         requires part { IsPart domain.now (all election.now.profile.alternatives) }
         requires member { set.contains domain.now x ≡ true }
-        ensures { result ≡ score (named self.now) domain.now (restrict domain.now election.now.profile.lines) x };
+        ensures { result
+            ≡ score (named self.now) domain.now (restrict domain.now election.now.profile.lines) x };
 
     /// The scores of all members of the domain, that of x at place x - 1. The other places may become
     /// anything.
@@ -34,5 +36,6 @@ pub trait Scoring: Drop {
         requires part { IsPart domain.now (all election.now.profile.alternatives) }
         requires members { AreMembers domain.now members.now }
         requires size { length scores.old ≡ limit }
-        ensures { AreScores domain.now (score (named self.now) domain.now (restrict domain.now election.now.profile.lines)) scores.new };
+        ensures { AreScores domain.now
+            (score (named self.now) domain.now (restrict domain.now election.now.profile.lines)) scores.new };
 }
