@@ -19,7 +19,8 @@ struct Refusal {
 // The number after the last node of a derivation, where the root has this number; or the first bad node.
 fn number_after(judgement: Judgement, derivation: &Derivation, number: u64) -> Result<u64, Refusal>
     ensures { MatchResult result
-        (λ next. (first_bad (rule_tree derivation.now) (claim judgement.entry) ≡ None) × (next ≡ min (number + size (rule_tree derivation.now)) greatest_number))
+        (λ next. (first_bad (rule_tree derivation.now) (claim judgement.entry) ≡ None)
+        × (next ≡ min (number + size (rule_tree derivation.now)) greatest_number))
         (λ refusal. (bad : BadNode) × (first_bad (rule_tree derivation.now) (claim judgement.entry) ≡ Some bad)
         × (refusal.node ≡ min (number + bad.number) greatest_number) × (refusal.why ≡ bad.why)) }
 {
@@ -58,7 +59,8 @@ fn number_after(judgement: Judgement, derivation: &Derivation, number: u64) -> R
 /// whatever size. The terms are to name no number of alternatives below 1, as terms within the limits do.
 pub fn check(judgement: Judgement, derivation: &Derivation) -> Verdict
     ensures verdict { IsVerdict result (rule_tree derivation.now) (claim judgement.entry) }
-    ensures truth { result ≡ Verdict.Accepted → IsProperClaim (claim judgement.entry) → IsTrueClaim (claim judgement.entry) }
+    ensures truth { result ≡ Verdict.Accepted → IsProperClaim (claim judgement.entry)
+        → IsTrueClaim (claim judgement.entry) }
 {
     match number_after(judgement, derivation, 0) {
         Ok(_) => Verdict::Accepted,

@@ -1,3 +1,4 @@
+// What the checker says.
 use vir_rules::Unfit;
 
 /// What is said of a derivation that is to derive a judgement.

@@ -152,6 +152,36 @@ const CASES: &[Case] = &[
         verdict: Accepted,
     },
     Case {
+        text: "r = until(1,min(borda));",
+        prop: Prop::Dcc,
+        tree: Tree("dcc-until", &[Tree("cprog-leaf", &[])]),
+        verdict: Accepted,
+    },
+    Case {
+        text: "r = until(2,min(borda));",
+        prop: Prop::Dcc,
+        tree: Tree("dcc-until", &[Tree("cprog-leaf", &[])]),
+        verdict: Refused {
+            node: 0,
+            why: RuleDoesNotFit,
+        },
+    },
+    Case {
+        text: "r = until(1,min(borda));",
+        prop: Prop::Dcc,
+        tree: Tree("dcc-loop", &[Tree("cprog-leaf", &[])]),
+        verdict: Refused {
+            node: 0,
+            why: RuleDoesNotFit,
+        },
+    },
+    Case {
+        text: "r = until(3,max(copeland));",
+        prop: Prop::Neut,
+        tree: Tree("neut-until", &[Tree("neut-leaf", &[])]),
+        verdict: Accepted,
+    },
+    Case {
         text: DUELS_ELECT,
         prop: Prop::Cc,
         tree: Tree("cc-seq-dcc", &[Tree("dcc-loop", &[DCC_LEAF]), EL_LEAF]),

@@ -4,9 +4,8 @@ use Rattle.vir_rules.specs.Claims.{Claim}
 use Rattle.vir_rules.specs.Premises.{premises}
 use Rattle.vir_rules.specs.RuleTrees.{RuleTree, RuleTrees, node, none, more}
 
--- A tree is valid for a claim: its rule fits, it has as many children as there are premises, and each child is valid
--- for the
--- premise in its place.
+-- A tree is valid for a claim: its rule fits, it has as many children as there are premises, and each child is
+-- valid for the premise in its place.
 abbrev mutual
   pub Valid : RuleTree → Claim → Type 0
   Valid (node rule children) c = (needed : List Claim) × (premises rule c ≡ Some needed) × AllValid children needed
@@ -30,9 +29,8 @@ AllDerivable (c ∷ rest) = Derivable c × AllDerivable rest
 abbrev pub Fails : ℕ → Claim → Type 0
 Fails rule c = MatchOption (premises rule c) (Unit {0}) (λ needed. AllDerivable needed → ⊥)
 
--- A tree is the first derivation of a claim: its rule is the first one that serves, and its children are the first
--- derivations
--- of the premises.
+-- A tree is the first derivation of a claim: its rule is the first one that serves, and its children are the
+-- first derivations of the premises.
 abbrev mutual
   pub IsFirst : RuleTree → Claim → Type 0
   IsFirst (node rule children) c =

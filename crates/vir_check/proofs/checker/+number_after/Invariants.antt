@@ -14,7 +14,9 @@ decreases-number_after l = size (rule_tree l.derivation.now)
 abbrev pub invariant-loop-i : goal.invariant-loop-i
 invariant-loop-i l =
     let trees = rule_trees (out-Derivation l.derivation).children in
-    (needed : List Claim) × (before : ℕ) × (premises (out-Derivation l.derivation).rule (claim l.judgement) ≡ Some needed) × (length needed ≡ length trees)
+    (needed : List Claim) × (before : ℕ) × (premises (out-Derivation l.derivation).rule (claim l.judgement)
+    ≡ Some needed) × (length needed ≡ length trees)
     × (1 ≤ before) × (l.next ≡ min (l.number + before) greatest_number)
     × (size (rule_tree l.derivation) ≡ before + size_of_all (gathered (drop l.i trees)))
-    × (first_bad (rule_tree l.derivation) (claim l.judgement) ≡ after before (first_bad_among (gathered (drop l.i trees)) (drop l.i needed)))
+    × (first_bad (rule_tree l.derivation) (claim l.judgement)
+    ≡ after before (first_bad_among (gathered (drop l.i trees)) (drop l.i needed)))

@@ -7,7 +7,8 @@ use Rattle.vir_sound.proofs.DerivedTruth.{true_by}
 use Rattle.vir_check.proofs.checker.check.Goals as goal
 
 pub returns-in-Ok-clause-verdict : goal.returns-in-Ok-clause-verdict
-returns-in-Ok-clause-verdict c = unblamed_valid (rule_tree c.args.derivation.now) (claim c.args.judgement) c.in-Ok.ensures.0
+returns-in-Ok-clause-verdict c = unblamed_valid (rule_tree c.args.derivation.now) (claim c.args.judgement)
+    c.in-Ok.ensures.0
 
 pub returns-in-Ok-clause-truth : goal.returns-in-Ok-clause-truth
 returns-in-Ok-clause-truth c accepted proper =
@@ -21,7 +22,8 @@ pub returns-in-Err-clause-verdict : goal.returns-in-Err-clause-verdict
 returns-in-Err-clause-verdict c =
     let told = c.in-Err.ensures in
     record {
-      not_valid = λ valid. some-none told.0 (sym told.1 ∙ valid_unblamed (rule_tree c.args.derivation.now) (claim c.args.judgement) valid);
+      not_valid = λ valid. some-none told.0 (sym told.1 ∙ valid_unblamed (rule_tree c.args.derivation.now)
+          (claim c.args.judgement) valid);
       bad = told.0;
       is_first = told.1;
       number_is = omega arith;
