@@ -1,7 +1,7 @@
 // The laws of certificates can be called.
 use vir_cert::{
-    accepted_certificates_are_within_limits, first_certificates_are_read, printed_certificates_are_read,
-    valid_certificates_are_within_limits,
+    accepted_certificates_are_within_limits, first_certificates_are_read,
+    printed_certificates_are_read, valid_certificates_are_within_limits,
 };
 
 #[test]

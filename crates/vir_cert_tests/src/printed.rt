@@ -84,7 +84,9 @@ fn rule_alone(rt: &impl Abort, alloc: Global, name: &str) -> Derivation {
 fn a_certificate_that_was_made_is_printed(rt: HostRuntime) -> Result<(), AllocError> {
     let alloc = rt.alloc();
     let mut derivation = rule_alone(&rt, alloc, "dcc-until");
-    derivation.children.push(rule_alone(&rt, alloc, "cprog-leaf"))?;
+    derivation
+        .children
+        .push(rule_alone(&rt, alloc, "cprog-leaf"))?;
     let certificate = Certificate {
         term: Term::Until {
             k: 1,
