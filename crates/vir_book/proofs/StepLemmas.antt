@@ -33,7 +33,8 @@ module _ (text : List ℕ) (list : List Token) (counter at : ℕ) (before : List
         >>= λ after. entries_of left text after d.1)
     goes h = opened ∙ entries_of-some left text before (drop at list) (let e = length-drop at list in omega arith)
 
-    pub reads : (d : Written) (rest : List Token) → at < length list → definition_of text (drop at list) ≡ Ok (d, rest) →
+    pub reads : (d : Written) (rest : List Token) → at < length list
+        → definition_of text (drop at list) ≡ Ok (d, rest) →
         whole ≡ (with_definition text before d >>= λ after. entries_of left text after rest)
     reads d rest h e = goes h ∙ ap (λ r. r >>= λ d. with_definition text before d.0 >>= λ after. entries_of left text
         after d.1) e

@@ -32,5 +32,6 @@ pub fn first_certificates_are_read()
 /// the term, so such a certificate can be printed and read, if the text isn't too long.
 pub fn valid_certificates_are_within_limits()
     ensures levels { (d : RuleTree) (p : Prop) (t : Tree) → Valid d (of p t) → term_levels t ≤ 64 → levels d ≤ 192 }
-    ensures certificates { (c : Cert) → IsWithinLimits c.term → IsPropInRange c.prop → Valid c.derivation (of c.prop c.term) → IsCert c }
+    ensures certificates { (c : Cert) → IsWithinLimits c.term → IsPropInRange c.prop
+        → Valid c.derivation (of c.prop c.term) → IsCert c }
 {}

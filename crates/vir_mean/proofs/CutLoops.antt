@@ -70,11 +70,11 @@ passed-just x member =
 not-all-passed : set.is_subset one_two_three passed ≡ false
 not-all-passed = elim (set.is_subset one_two_three passed) as (λ b. set.is_subset one_two_three passed ≡ b
     → b ≡ false) [
-  | true ↦ λ e.
-      sym (passed-just 2 (set.is_subset-contains nat_cmp_total one_two_three passed e 2 (contains-one_two_three 2)))
-      ∙ contains-insert nobody 1 2 ∙ contains-empty 2
-  | false ↦ λ e. refl
-] refl
+      | true ↦ λ e.
+          sym (passed-just 2 (set.is_subset-contains nat_cmp_total one_two_three passed e 2 (contains-one_two_three 2)))
+          ∙ contains-insert nobody 1 2 ∙ contains-empty 2
+      | false ↦ λ e. refl
+    ] refl
 
 abbrev cut_loop : Tree
 cut_loop = loop (exactly 2) (leaf (PassFirst 1 []))

@@ -171,9 +171,9 @@ module _ (a : Set) (p q : List Entry) (x : ℕ) (on : IsProfileOn a p) (on_after
       step : (k l m n : ℕ) → k ≤ m → n ≤ l → (m ≡ k → l ≡ n → ⊥) → (pos k -ℤ pos l) <ℤ (pos m -ℤ pos n)
       step k l m n most least differ = elim (nat_eq m k) as (λ b. nat_eq m k ≡ b
           → (pos k -ℤ pos l) <ℤ (pos m -ℤ pos n)) [
-        | true ↦ λ e. let same = eqb-true m k e in let apart : l ≢ n = differ same in omega (arith, ints)
-        | false ↦ λ e. let apart = differs m k e in omega (arith, ints)
-      ] refl
+            | true ↦ λ e. let same = eqb-true m k e in let apart : l ≢ n = differ same in omega (arith, ints)
+            | false ↦ λ e. let apart = differs m k e in omega (arith, ints)
+          ] refl
         where
           differs : (m k : ℕ) → nat_eq m k ≡ false → m ≢ k
           differs m k e = grind (arith, nat_tests)

@@ -91,8 +91,10 @@ members-leaves : (text : List ℕ) (close : Symbol) (tree : Reads) → Shortens 
 members-leaves text close tree h zero tokens = unexpected-leaves text (length tokens) tokens
 members-leaves text close tree h (suc most) tokens =
     let further : List Token → Read RawTrees = members text close tree most in
-    next_leaves (length tokens) (tree tokens) (λ first. separator_of text close first.1 >>= λ s. goes_on first.0 further s.1 s.0)
-    (h tokens) (λ first. next_leaves (length first.1) (separator_of text close first.1) (λ s. goes_on first.0 further s.1 s.0)
+    next_leaves (length tokens) (tree tokens)
+    (λ first. separator_of text close first.1 >>= λ s. goes_on first.0 further s.1 s.0)
+    (h tokens)
+    (λ first. next_leaves (length first.1) (separator_of text close first.1) (λ s. goes_on first.0 further s.1 s.0)
     (separator_of-leaves text close first.1)
     (λ s. goes_on-leaves first.0 further s.1 s.0 (members-leaves text close tree h most s.1)))
 

@@ -145,7 +145,8 @@ fn read_members(
 ) -> Result<ListEnd, TextError>
     requires { from ≤ length list.now }
     ensures members { Gives (λ end. (gathered (listed end.trees), drop end.next list.now)) result
-        (members text.now (close_of kind) (member_of text.now kind) (length (drop from list.now)) (drop from list.now)) }
+        (members text.now (close_of kind) (member_of text.now kind) (length (drop from list.now))
+        (drop from list.now)) }
     ensures forward { IfOk result (λ end. (from < end.next) × (end.next ≤ length list.now)) }
 {
     let mut trees = RawList::new(alloc);
