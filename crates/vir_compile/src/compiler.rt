@@ -1,3 +1,4 @@
+// From terms to code.
 ghost use Rattle.std.specs.Prelude.{◌≡◌, ◌≤◌, ◌++◌, ◌∷◌, [], length, max, IfOk, OnOk};
 ghost use Rattle.vir_term.specs.Tree.{tree, nesting, loop};
 ghost use Rattle.vir_term.specs.Limits.{IsWithinLimits, nesting_limit};

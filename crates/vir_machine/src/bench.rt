@@ -1,3 +1,4 @@
+// Benches of counters.
 ghost use Rattle.std.specs.Prelude.{◌≡◌, ◌≤◌, ◌↔◌, [], ◌∷◌, ◌++◌, length, true, nat_eq, if◌then◌else◌, slice_get, IsNone, IsTrue, OnOk, OnErr};
 ghost use Rattle.std.specs.Option.{option_copied};
 ghost use Rattle.vir_altset.specs.Sets.{all, IsPart};
@@ -53,6 +54,13 @@ impl Bench {
         self.counters.len()
     }
 
+    /// Whether it has no counters.
+    pub fn is_empty(&self) -> bool
+        ensures { IsTrue result ↔ (views kinds made self.now.counters.items ≡ []) }
+    {
+        self.counters.is_empty()
+    }
+
     /// The number of runs. It stops at the greatest `u64`.
     pub fn runs(&self) -> u64
         ensures { result ≡ self.now.runs }
@@ -74,13 +82,7 @@ impl Bench {
     pub fn serves_all(&self, term: &Term) -> bool
         ensures { result ≡ all_served (kinds_of (views kinds made self.now.counters.items)) (tree term.now) }
     {
-        match term {
-            Term::Leaf(leaf) => self.serves(leaf),
-            Term::Rev(part) => self.serves_all(part),
-            Term::Seq(first, second) => self.serves_all(first) && self.serves_all(second),
-            Term::Par(first, second) => self.serves_all(first) && self.serves_all(second),
-            Term::Loop { body, .. } | Term::Until { body, .. } => self.serves_all(body),
-        }
+        self.first_unserved(term).is_none()
     }
 
     /// The first module of the term, from left to right as it is written, that no counter serves.

@@ -1,3 +1,4 @@
+// A stack whose room is made with it.
 ghost use Rattle.std.specs.Prelude.{◌≡◌, ◌<◌, [], ◌∷◌, length, IfOk};
 
 use std::alloc::{AllocError, Global};
