@@ -1,8 +1,8 @@
-// Properties that rules lack, and profiles that show it.
+// Properties that rules have or lack, and profiles that show it.
 use crate::rules::Word;
-use crate::rules::Word::{Loop, Module, Par, Pass, Seq};
+use crate::rules::Word::{Drop, Loop, Module, Par, Pass, Seq};
 use crate::splits::{ALL, Row, expect_splits};
-use crate::votes::{CYCLE, DIVIDED, Votes};
+use crate::votes::{CYCLE, DIVIDED, SILENT, Votes};
 use std::test::Fail;
 use vir_term::LeafKind::{Defer, Elect, Max, Min, Plurality};
 use vir_term::Score;
@@ -50,6 +50,36 @@ const FAILURES: &[(Votes<'static>, Row)] = &[
     // Two are to be deferred, and the first turn leaves one.
     (CYCLE, (&[Pass(1, &[]), Loop(2)], ALL, &[], &[2, 3], &[1])),
 ];
+
+// Of the first three alternatives, 1 and 2 are each passed, or dropped so that the first of the others
+// is passed: two are deferred, where all numbers are from 1 on.
+const FIRST_TWO: &[Word] = &[
+    Pass(3, &[]),
+    Drop(1, &[2]),
+    Pass(1, &[2]),
+    Seq,
+    Drop(1, &[1]),
+    Pass(1, &[1]),
+    Seq,
+    Par,
+    Pass(1, &[2]),
+    Pass(1, &[1]),
+    Par,
+    Par,
+    Seq,
+];
+
+const TWO_DEFERRED: &[Row] = &[
+    (FIRST_TWO, ALL, &[], &[3], &[1, 2]),
+    (FIRST_TWO, &[1, 2], &[], &[], &[1, 2]),
+    (FIRST_TWO, &[1, 3], &[], &[], &[1, 3]),
+    (FIRST_TWO, &[2, 3], &[], &[], &[2, 3]),
+];
+
+#[test]
+fn two_deferred_of_alternatives_from_1_on(rt: HostRuntime) -> Result<(), Fail> {
+    expect_splits(&rt, rt.alloc(), SILENT, TWO_DEFERRED)
+}
 
 #[test]
 fn properties_that_fail(rt: HostRuntime) -> Result<(), Fail> {

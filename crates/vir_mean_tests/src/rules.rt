@@ -14,6 +14,7 @@ pub enum Word {
     Seq,
     Par,
     Loop(u32),
+    Until(u32),
 }
 
 fn order_of(rt: &impl Abort, alloc: Global, list: &[u16]) -> Result<FixedOrder, AllocError> {
@@ -74,6 +75,10 @@ fn rule_of(
         Word::Loop(k) => {
             let body = last(rt, alloc, rules)?;
             Ok(Term::Loop { k, body })
+        }
+        Word::Until(k) => {
+            let body = last(rt, alloc, rules)?;
+            Ok(Term::Until { k, body })
         }
     }
 }

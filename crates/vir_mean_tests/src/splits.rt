@@ -1,5 +1,5 @@
 // Rules on small profiles.
-use crate::rules::Word::{Drop, Loop, Module, Par, Pass, Rev, Seq};
+use crate::rules::Word::{Drop, Loop, Module, Par, Pass, Rev, Seq, Until};
 use crate::rules::{Word, term_of};
 use crate::votes::{CYCLE, DIVIDED, SILENT, Votes, profile_of, set_of};
 use std::alloc::Global;
@@ -116,6 +116,26 @@ const COMPOSED: &[Row] = &[
 #[test]
 fn compositions_on_a_divided_profile(rt: HostRuntime) -> Result<(), Fail> {
     expect_splits(&rt, rt.alloc(), DIVIDED, COMPOSED)
+}
+
+// The first turn leaves 1 and 2, or 3 alone: a loop goes on past its number, and an until stops there.
+const UNTIL: &[Row] = &[
+    (
+        &[Module(Min(Score::Plurality)), Until(2)],
+        ALL,
+        &[],
+        &[3],
+        &[1, 2],
+    ),
+    (&[Drop(2, &[]), Until(2)], ALL, &[], &[1, 2], &[3]),
+    (&[Drop(2, &[]), Loop(2)], ALL, &[], &[1, 2, 3], &[]),
+    (&[Drop(2, &[]), Until(3)], ALL, &[], &[], &[1, 2, 3]),
+    (&[Module(Defer), Until(1)], ALL, &[], &[], &[1, 2, 3]),
+];
+
+#[test]
+fn loops_that_stop_at_few(rt: HostRuntime) -> Result<(), Fail> {
+    expect_splits(&rt, rt.alloc(), DIVIDED, UNTIL)
 }
 
 const FIRST: &[Row] = &[
