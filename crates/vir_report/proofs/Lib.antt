@@ -1,3 +1,4 @@
+pub mod Beginnings
 pub mod SpacedLemmas
 pub mod ChildrenLemmas
 pub mod LineLemmas

@@ -14,7 +14,8 @@ claim_text (disj left right) = codes "disj of " ++ term_text left ++ codes " and
 
 -- a reason, on a line of its own: the rule, the number of the premise, and the premise
 abbrev pub reason_line : Reason → List ℕ
-reason_line reason = codes "- " ++ (row_of reason.rule).name ++ codes " " ++ decimal reason.number ++ codes " " ++ claim_text reason.premise ++ codes "\n"
+reason_line reason = codes "- " ++ (row_of reason.rule).name ++ codes " " ++ decimal reason.number ++ codes " "
+    ++ claim_text reason.premise ++ codes "\n"
 
 -- the reasons against a claim, each on its line; or the line that says that no rule fits
 abbrev pub reasons_text : List Reason → List ℕ

@@ -1,3 +1,4 @@
+pub mod Appending
 pub mod ResultText
 pub mod ClaimTexts
 pub use Rattle.vir_rules.specs.Texts

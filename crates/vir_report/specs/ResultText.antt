@@ -15,4 +15,5 @@ set_line name a = name ++ codes ":" ++ spaced (members a) ++ 10 ∷ []
 
 -- the three lines of a result
 abbrev pub result_text : Split → List ℕ
-result_text split = set_line (codes "elected") split.elected ++ set_line (codes "rejected") split.rejected ++ set_line (codes "deferred") split.deferred
+result_text split = set_line (codes "elected") split.elected ++ set_line (codes "rejected") split.rejected
+    ++ set_line (codes "deferred") split.deferred

@@ -1,9 +1,10 @@
 // The text of a judgement.
-ghost use Rattle.std.specs.Prelude.{◌≡◌, ◌++◌, OnOk, IfOk};
+ghost use Rattle.std.specs.Prelude.{◌≡◌, IfOk};
 ghost use Rattle.vir_term.specs.Text.{term_text};
 ghost use Rattle.vir_term.specs.Tree.{tree};
 ghost use Rattle.vir_rules.specs.Claims.{claim};
 ghost use Rattle.vir_report.specs.ClaimTexts.{claim_text};
+ghost use Rattle.vir_report.specs.Appending.{Appends};
 
 use crate::prop::push_prop;
 use std::alloc::{AllocError, Global};
@@ -11,20 +12,22 @@ use vir_rules::Judgement;
 use vir_term::Term;
 
 // Appends the text of a term.
+#[tactic(auto, using(crate::proofs::Beginnings::beginnings))]
 fn push_term(alloc: Global, text: &mut Vec<u8>, term: &Term) -> Result<(), AllocError>
-    ensures { OnOk result (text.new.items ≡ text.old.items ++ term_text (tree term.now)) }
+    ensures { Appends result text.old.items text.new.items (term_text (tree term.now)) }
 {
     let printed = term.print(alloc)?;
     text.extend_from_slice(&printed)
 }
 
 /// Appends the text of a judgement: a property and its term, or two terms that are disjoint.
+#[tactic(auto, using(crate::proofs::Beginnings::beginnings))]
 pub(crate) fn push_judgement(
     alloc: Global,
     text: &mut Vec<u8>,
     judgement: Judgement,
 ) -> Result<(), AllocError>
-    ensures { OnOk result (text.new.items ≡ text.old.items ++ claim_text (claim judgement.entry)) }
+    ensures { Appends result text.old.items text.new.items (claim_text (claim judgement.entry)) }
 {
     match judgement {
         Judgement::Of { prop, term } => {

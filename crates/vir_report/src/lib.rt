@@ -1,10 +1,11 @@
 //! The texts that the program prints: results, properties, judgements, derivations and reasons.
 //!
-//! The definitions are in `specs/ResultText.antt` and `specs/ClaimTexts.antt`; the texts of a property and
-//! of a derivation are defined with the rules, in `vir_rules`. The one contract of this layer: each call
-//! gives the text that is defined, or memory was wanting. A text of several parts is made in one buffer:
-//! the calls that begin with `push` append to it. It stands on `vir_altset` for sets, on `vir_term` for
-//! the texts of terms, on `vir_rules`, and on `itoa` for numbers.
+//! The definitions are in `specs/ResultText.antt` and `specs/ClaimTexts.antt`; the texts of a property and of a
+//! derivation are defined with the rules, in `vir_rules`. The one contract of this layer: each call gives the
+//! text that is defined, or memory was wanting. A text of several parts is made in one buffer: the calls that
+//! begin with `push` append to it, and what stood there stays, also where memory runs out
+//! (`specs/Appending.antt`). It stands on `vir_altset` for sets, on `vir_term` for the texts of terms, on
+//! `vir_rules`, and on `itoa` for numbers.
 #![tactic(auto)]
 
 mod derivation;

@@ -1,45 +1,40 @@
 // The text of a property.
-ghost use Rattle.std.specs.Prelude.{◌≡◌, ◌++◌, OnOk, IfOk, List, ℕ};
-ghost use Rattle.vir_rules.specs.Props.{counted_text, prop_text};
+ghost use Rattle.std.specs.Prelude.{◌≡◌, IfOk, List, ℕ};
+ghost use Rattle.vir_rules.specs.Props.{in_parentheses, number_text, prop_text};
+ghost use Rattle.vir_report.specs.Appending.{Appends};
 
 use crate::number::push_number;
 use std::alloc::{AllocError, Global};
-use vir_rules::Prop;
+use vir_rules::{Prop, prop_word};
 
-// Appends the name of a property and its number in parentheses.
-fn push_counted(text: &mut Vec<u8>, name: &[u8], number: u32) -> Result<(), AllocError>
-    ensures { OnOk result (text.new.items ≡ text.old.items ++ counted_text name.now number) }
+// Appends a number in parentheses.
+#[tactic(auto, using(crate::proofs::Beginnings::beginnings))]
+fn push_in_parentheses(text: &mut Vec<u8>, number: u32) -> Result<(), AllocError>
+    ensures { Appends result text.old.items text.new.items (in_parentheses number) }
 {
-    text.extend_from_slice(name)?;
     text.extend_from_slice(b"(")?;
     push_number(text, u64::from(number))?;
     text.extend_from_slice(b")")
 }
 
-/// Appends the text of a property: its name, and its number in parentheses where it has one.
-pub fn push_prop(text: &mut Vec<u8>, prop: Prop) -> Result<(), AllocError>
-    ensures { OnOk result (text.new.items ≡ text.old.items ++ prop_text prop) }
+// Appends the number of a property in parentheses; nothing where it has none.
+#[tactic(auto, using(crate::proofs::Beginnings::beginnings))]
+fn push_number_of(text: &mut Vec<u8>, prop: Prop) -> Result<(), AllocError>
+    ensures { Appends result text.old.items text.new.items (number_text prop) }
 {
     match prop {
-        Prop::Ne => text.extend_from_slice(b"ne"),
-        Prop::Ea => text.extend_from_slice(b"ea"),
-        Prop::El => text.extend_from_slice(b"el"),
-        Prop::Defers(k) => push_counted(text, b"defers", k),
-        Prop::Rejects(k) => push_counted(text, b"rejects", k),
-        Prop::Elim(k) => push_counted(text, b"elim", k),
-        Prop::Nb => text.extend_from_slice(b"nb"),
-        Prop::Decr => text.extend_from_slice(b"decr"),
-        Prop::Dli => text.extend_from_slice(b"dli"),
-        Prop::Imono => text.extend_from_slice(b"imono"),
-        Prop::Dimono => text.extend_from_slice(b"dimono"),
-        Prop::Dmono => text.extend_from_slice(b"dmono"),
-        Prop::Mono => text.extend_from_slice(b"mono"),
-        Prop::Cc => text.extend_from_slice(b"cc"),
-        Prop::Dcc => text.extend_from_slice(b"dcc"),
-        Prop::Cprog => text.extend_from_slice(b"cprog"),
-        Prop::Ccomp => text.extend_from_slice(b"ccomp"),
-        Prop::Neut => text.extend_from_slice(b"neut"),
+        Prop::Defers(k) | Prop::Rejects(k) | Prop::Elim(k) => push_in_parentheses(text, k),
+        _ => Ok(()),
     }
+}
+
+/// Appends the text of a property: its name, and its number in parentheses where it has one.
+#[tactic(auto, using(crate::proofs::Beginnings::beginnings))]
+pub fn push_prop(text: &mut Vec<u8>, prop: Prop) -> Result<(), AllocError>
+    ensures { Appends result text.old.items text.new.items (prop_text prop) }
+{
+    text.extend_from_slice(prop_word(prop).as_bytes())?;
+    push_number_of(text, prop)
 }
 
 /// The text of a property.

@@ -1,23 +1,26 @@
 // The text of a result.
-ghost use Rattle.std.specs.Prelude.{◌≡◌, ◌++◌, ◌∷◌, OnOk, IfOk, decimal};
+ghost use Rattle.std.specs.Prelude.{◌≡◌, ◌∷◌, IfOk, decimal};
 ghost use Rattle.vir_altset.specs.Members.{members};
 ghost use Rattle.vir_report.specs.ResultText.{spaced, set_line, result_text};
+ghost use Rattle.vir_report.specs.Appending.{Appends};
 
 use crate::number::push_number;
 use std::alloc::{AllocError, Global};
 use vir_altset::{AltSet, Split};
 
 // Appends a space and the number.
+#[tactic(auto, using(crate::proofs::Beginnings::beginnings))]
 fn push_member(text: &mut Vec<u8>, member: u16) -> Result<(), AllocError>
-    ensures { OnOk result (text.new.items ≡ text.old.items ++ 32 ∷ decimal member) }
+    ensures { Appends result text.old.items text.new.items (32 ∷ decimal member) }
 {
     text.extend_from_slice(b" ")?;
     push_number(text, u64::from(member))
 }
 
 // Appends a space and the number for each member, ascending.
+#[tactic(auto, using(crate::proofs::Beginnings::beginnings))]
 fn push_members(text: &mut Vec<u8>, set: &AltSet) -> Result<(), AllocError>
-    ensures { OnOk result (text.new.items ≡ text.old.items ++ spaced (members set.now)) }
+    ensures { Appends result text.old.items text.new.items (spaced (members set.now)) }
 {
     let mut last = 0;
     while let Some(next) = set.first_after(last) {
@@ -28,8 +31,9 @@ fn push_members(text: &mut Vec<u8>, set: &AltSet) -> Result<(), AllocError>
 }
 
 /// Appends the line of a set: its name, a colon, and its members.
+#[tactic(auto, using(crate::proofs::Beginnings::beginnings))]
 pub fn push_set(text: &mut Vec<u8>, name: &[u8], set: &AltSet) -> Result<(), AllocError>
-    ensures { OnOk result (text.new.items ≡ text.old.items ++ set_line name.now set.now) }
+    ensures { Appends result text.old.items text.new.items (set_line name.now set.now) }
 {
     text.extend_from_slice(name)?;
     text.extend_from_slice(b":")?;
@@ -38,8 +42,9 @@ pub fn push_set(text: &mut Vec<u8>, name: &[u8], set: &AltSet) -> Result<(), All
 }
 
 /// Appends the text of a result: a line for the elected, the rejected and the deferred alternatives.
+#[tactic(auto, using(crate::proofs::Beginnings::beginnings))]
 pub fn push_result(text: &mut Vec<u8>, split: &Split) -> Result<(), AllocError>
-    ensures { OnOk result (text.new.items ≡ text.old.items ++ result_text split.now) }
+    ensures { Appends result text.old.items text.new.items (result_text split.now) }
 {
     push_set(text, b"elected", &split.elected)?;
     push_set(text, b"rejected", &split.rejected)?;

@@ -1,7 +1,8 @@
 // The text of reasons.
-ghost use Rattle.std.specs.Prelude.{◌≡◌, ◌++◌, OnOk, IfOk};
+ghost use Rattle.std.specs.Prelude.{◌≡◌, IfOk};
 ghost use Rattle.vir_rules.specs.Reasons.{reason_seen, reasons_seen};
 ghost use Rattle.vir_report.specs.ClaimTexts.{reason_line, reasons_text};
+ghost use Rattle.vir_report.specs.Appending.{Appends};
 
 use crate::judgement::push_judgement;
 use crate::number::push_number;
@@ -10,8 +11,9 @@ use vir_rules::{Why, WhyLine};
 
 // Appends the line of a reason: the rule, the number of its first premise that can't be derived, and
 // that premise.
+#[tactic(auto, using(crate::proofs::Beginnings::beginnings))]
 fn push_line(alloc: Global, text: &mut Vec<u8>, line: &WhyLine) -> Result<(), AllocError>
-    ensures { OnOk result (text.new.items ≡ text.old.items ++ reason_line (reason_seen line.now)) }
+    ensures { Appends result text.old.items text.new.items (reason_line (reason_seen line.now)) }
 {
     text.extend_from_slice(b"- ")?;
     text.extend_from_slice(line.rule.name().as_bytes())?;
@@ -23,8 +25,9 @@ fn push_line(alloc: Global, text: &mut Vec<u8>, line: &WhyLine) -> Result<(), Al
 }
 
 /// Appends the text of reasons: a line for each, or the one line that no rule fits.
+#[tactic(auto, using(crate::proofs::Beginnings::beginnings))]
 pub fn push_why(alloc: Global, text: &mut Vec<u8>, why: &Why) -> Result<(), AllocError>
-    ensures { OnOk result (text.new.items ≡ text.old.items ++ reasons_text (reasons_seen why.now)) }
+    ensures { Appends result text.old.items text.new.items (reasons_text (reasons_seen why.now)) }
 {
     if why.len() == 0 {
         return text.extend_from_slice(b"- no rule\n");

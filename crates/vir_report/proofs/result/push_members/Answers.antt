@@ -8,10 +8,12 @@ loop-next-init c = record { within = omega arith; printed = spaced-none c.args.s
 pub loop-next-preserved : goal.loop-next-preserved
 loop-next-preserved c = record {
   within = c.in-Some.ensures.within_limit;
-  printed = spaced-next c.args.set.now c.loop-next.last c.in-Some.next _ _ _ c.in-Some.ensures.least c.loop-next.invariant.printed c.in_ok-push_member.ensures;
+  printed = spaced-next c.args.set.now c.loop-next.last c.in-Some.next _ _ _ c.in-Some.ensures.least
+      c.loop-next.invariant.printed c.in_ok-push_member.ensures;
 }
 
 pub returns : goal.returns
 returns c =
     let last = c.in_default.ensures in
-    spaced-last c.args.set.now c.loop-next.last _ _ last.least c.loop-next.invariant.within c.loop-next.invariant.printed
+    spaced-last c.args.set.now c.loop-next.last _ _ last.least c.loop-next.invariant.within
+    c.loop-next.invariant.printed
