@@ -24,5 +24,5 @@ pub use laws::{
     accepted_certificates_are_within_limits, first_certificates_are_read,
     printed_certificates_are_read, valid_certificates_are_within_limits,
 };
-pub use reader::{TEXT_LIMIT, read_cert};
+pub use reader::{CERTIFICATE_LIMIT, read_cert};
 pub use writer::print_cert;

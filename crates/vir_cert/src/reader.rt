@@ -19,7 +19,7 @@ use vir_rules::Prop;
 use vir_term::Term;
 
 /// How many bytes a certificate may have.
-pub const TEXT_LIMIT: usize = 16_777_216;
+pub const CERTIFICATE_LIMIT: usize = 16_777_216;
 
 // In a certificate no names are defined.
 struct NoNames;
@@ -120,14 +120,14 @@ fn read_parts(alloc: Global, text: &[u8], list: &[Token]) -> Result<Certificate,
 fn read_whole(alloc: Global, text: &[u8]) -> Result<Certificate, TextError>
     ensures { Gives (λ c. cert_seen c) result (cert_of text.now) }
 {
-    if text.len() > TEXT_LIMIT {
-        return Err(TextError::fault(TextKind::TextTooLong, TEXT_LIMIT));
+    if text.len() > CERTIFICATE_LIMIT {
+        return Err(TextError::fault(TextKind::TextTooLong, CERTIFICATE_LIMIT));
     }
     let list = tokens(alloc, text)?;
     read_parts(alloc, text, &list)
 }
 
-/// The certificate that a text is, or its first fault: that the text is longer than `TEXT_LIMIT`, a byte that
+/// The certificate that a text is, or its first fault: that the text is longer than `CERTIFICATE_LIMIT`, a byte that
 /// belongs to no token, or the first fault of its parts, which are judged in the order of the text.
 pub fn read_cert(alloc: Global, text: &[u8]) -> Result<Certificate, TextError>
     ensures exact { Gives (λ c. cert_seen c) result (cert_of text.now) }

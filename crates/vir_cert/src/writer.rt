@@ -4,7 +4,7 @@ ghost use Rattle.vir_term.specs.Text.{term_text};
 ghost use Rattle.vir_term.specs.Tree.{tree};
 ghost use Rattle.vir_cert.specs.Seen.{cert_seen};
 ghost use Rattle.vir_rules.specs.RuleTrees.{gathered, rule_tree, rule_trees};
-ghost use Rattle.vir_cert.specs.Texts.{have_rules_up_to, has_rules_up_to, cert_text, has_until, version_of};
+ghost use Rattle.vir_cert.specs.Texts.{cert_text, has_rules_up_to, has_until, have_rules_up_to, version_of};
 
 use crate::certificate::Certificate;
 use crate::version::{Version, is_new_prop};
@@ -73,7 +73,7 @@ fn push_term(alloc: Global, text: &mut Vec<u8>, term: &Term) -> Result<(), Alloc
     text.extend_from_slice(&printed)
 }
 
-/// The text of a certificate.
+/// The text of a certificate, in the first version that has all that it names.
 pub fn print_cert(alloc: Global, certificate: &Certificate) -> Result<Vec<u8>, AllocError>
     ensures { IfOk result (λ text. text.items ≡ cert_text (cert_seen certificate.now)) }
 {
