@@ -1,10 +1,9 @@
 -- Runs of terms on a bench, and what becomes of the bench.
-use Rattle.std.specs.Prelude.{ℕ, List, [], ◌∷◌}
+use Rattle.std.specs.Prelude.{ℕ, List}
 use Rattle.std.specs.declared.dyn_box.DynBox.{DynBox}
 use Rattle.std.specs.declared.alloc.Global.{Global}
 use Rattle.vir_altset.specs.Sets.{all}
 use Rattle.vir_counter.specs.Calls.{risen}
-use Rattle.vir_counter.specs.declared.counter.Counter.{Ghosts}
 use Rattle.vir_machine.specs.declared.bench.Bench.{Bench}
 use Rattle.vir_machine.specs.Bench.{CounterView, views, kinds_of, raised}
 use Rattle.vir_machine.specs.Uses.{uses}
@@ -22,9 +21,14 @@ pub record BenchView : Type 0 where
   pub counters : List CounterView
   pub runs : ℕ
 
--- a bench of the code, by what its counters are seen as
-abbrev pub bench_view : {I : Type 0} {F : I → Type 0} → Ghosts (DynBox I Global F) → Bench I F → BenchView
-bench_view seen bench = record { counters = views seen.kinds seen.made bench.counters.items; runs = bench.runs }
+-- a bench of the code, by what `kinds` and `made` tell of the counter in each box
+abbrev pub seen : {I : Type 0} {F : I → Type 0} → ((i : I) × F i → List LeafKind) → ((i : I) × F i → ℕ)
+    → Bench I F → BenchView
+seen kinds made bench =
+    record {
+      counters = views (λ b. kinds (b.vtable, b.value)) (λ b. made (b.vtable, b.value)) bench.counters.items;
+      runs = bench.runs;
+    }
 
 -- the kinds of modules that each counter serves
 abbrev pub served_by : BenchView → List (List LeafKind)
@@ -34,11 +38,7 @@ served_by bench = kinds_of bench.counters
 abbrev pub after_run : Run → BenchView → BenchView
 after_run run bench =
     record {
-      counters = raised (λ i. uses i (served_by bench) run.term (all run.votes.alternatives) run.votes.lines) bench.counters;
+      counters = raised (λ i. uses i (served_by bench) run.term (all run.votes.alternatives) run.votes.lines)
+          bench.counters;
       runs = risen bench.runs 1;
     }
-
--- runs, one after another
-abbrev pub after_runs : List Run → BenchView → BenchView
-after_runs [] bench = bench
-after_runs (run ∷ rest) bench = after_runs rest (after_run run bench)
