@@ -1,5 +1,5 @@
 -- How often the recursion of a term's meaning asks for the splits of its modules.
-use Rattle.std.specs.Prelude.{ℕ, zero, suc, ◌+◌, Bool, ◌&&◌, nat_eq, if◌then◌else◌, List, Option, Some, None}
+use Rattle.std.specs.Prelude.{ℕ, zero, suc, ◌+◌, Bool, nat_eq, if◌then◌else◌, List, Option, Some, None, is_none}
 use Rattle.std.specs.FinSet as set
 use Rattle.vir_altset.specs.Sets.{Set}
 use Rattle.vir_profile.specs.declared.ballot.Entry.{Entry}
@@ -13,14 +13,6 @@ use Rattle.vir_mean.specs.Compositions.{is_end}
 use Rattle.vir_mean.specs.Meaning.{mean}
 use Rattle.vir_machine.specs.Bench.{is_served, first_serving}
 
--- whether every module of a term is served
-abbrev pub all_served : List (List LeafKind) → Tree → Bool
-all_served served (leaf l) = is_served served (kind_of l)
-all_served served (rev part) = all_served served part
-all_served served (seq first second) = all_served served first && all_served served second
-all_served served (par first second) = all_served served first && all_served served second
-all_served served (loop k body) = all_served served body
-
 -- the first of two, where there is one
 abbrev pub or_else : Option Leaf → Option Leaf → Option Leaf
 or_else None second = second
@@ -33,6 +25,10 @@ first_unserved served (rev part) = first_unserved served part
 first_unserved served (seq first second) = or_else (first_unserved served first) (first_unserved served second)
 first_unserved served (par first second) = or_else (first_unserved served first) (first_unserved served second)
 first_unserved served (loop k body) = first_unserved served body
+
+-- whether every module of a term is served
+abbrev pub all_served : List (List LeafKind) → Tree → Bool
+all_served served t = is_none (first_unserved served t)
 
 -- how often something is asked for: for each set and each profile on it, a number
 abbrev pub Count : Type 0

@@ -2,6 +2,7 @@
 use Rattle.std.proofs.Common.{◌≡◌, ℕ, suc, ◌-◌, ◌≤◌, length, take, drop, Bool, true, false, ◌&&◌, cond, List, [], ◌∷◌, ◌++◌, map, Option, None, Some, Result, Ok, Err, OnErr, refl, sym, ap, ◌∙◌, subst, inl, inr, arith}
 use Rattle.std.proofs.Math.Seq.{take-length}
 use Rattle.std.specs.Prelude.{slice_index_or}
+use Rattle.vir_machine.proofs.Served.{served_of_none}
 use Rattle.vir_machine.specs.Bench.{is_served}
 use Rattle.vir_machine.specs.Uses.{all_served, first_unserved, or_else, uses}
 use Rattle.vir_machine.proofs.Raised.{kinds_of-raised}
@@ -42,18 +43,6 @@ none_right (Some l) p e = absurd cc
 
 both : (a b : Bool) → a ≡ true → b ≡ true → (a && b) ≡ true
 both a b one two = grind arith
-
--- where no module is the first that isn't served, all are
-served_of_none : (served : List (List LeafKind)) (t : Tree) → first_unserved served t ≡ None → all_served served t ≡ true
-served_of_none served (leaf l) e = at (is_served served (kind_of l)) e
-  where
-    at : (b : Bool) → cond b None (Some l) ≡ None → b ≡ true
-    at true same = refl
-    at false same = absurd cc
-served_of_none served (rev part) e = served_of_none served part e
-served_of_none served (seq first second) e = both _ _ (served_of_none served first (none_left _ _ e)) (served_of_none served second (none_right (first_unserved served first) _ e))
-served_of_none served (par first second) e = both _ _ (served_of_none served first (none_left _ _ e)) (served_of_none served second (none_right (first_unserved served first) _ e))
-served_of_none served (loop k body) e = served_of_none served body e
 
 pub served_first : (served : List (List LeafKind)) (terms : List Tree) (t : Tree) (rest : List Tree) → terms ≡ t ∷ rest → first_unserved_of served terms ≡ None → all_served served t ≡ true
 served_first served terms t rest is none = served_of_none served t (none_left _ (first_unserved_of served rest) (sym (ap (first_unserved_of served) is) ∙ none))

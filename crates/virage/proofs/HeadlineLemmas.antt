@@ -5,6 +5,7 @@ use Rattle.std.specs.Io.KnownBytes.{Appends}
 use Rattle.std.specs.declared.string.String.{String}
 use Rattle.vir_book.proofs.WithinLaws.{rule_within}
 use Rattle.vir_book.specs.Books.{rule_of}
+use Rattle.vir_machine.proofs.Served.{none_of_served}
 use Rattle.vir_machine.specs.Uses.{all_served, first_unserved, or_else}
 use Rattle.vir_outside.specs.Shelf.{Files, told_content}
 use Rattle.vir_profile.specs.Profiles.{Votes}
@@ -161,18 +162,6 @@ both_served false b is = absurd cc
 
 neither_left : (first second : Option Leaf) → first ≡ None → second ≡ None → or_else first second ≡ None
 neither_left first second one two = ap (λ (o : Option Leaf). or_else o second) one ∙ two
-
--- where all modules are served, none is the first that isn't
-none_of_served : (served : List (List LeafKind)) (t : Tree) → all_served served t ≡ true → first_unserved served t ≡ None
-none_of_served served (leaf l) e = ap (λ (b : Bool). cond b None (Some l)) e
-none_of_served served (rev part) e = none_of_served served part e
-none_of_served served (seq first second) e =
-    let both = both_served (all_served served first) (all_served served second) e in
-    neither_left _ _ (none_of_served served first both.0) (none_of_served served second both.1)
-none_of_served served (par first second) e =
-    let both = both_served (all_served served first) (all_served served second) e in
-    neither_left _ _ (none_of_served served first both.0) (none_of_served served second both.1)
-none_of_served served (loop k body) e = none_of_served served body e
 
 -- where words, files and counters are so, a report is printed
 pub accepted_prints : {Z : Type 0} (files : Option Files) (kinds : List (List LeafKind)) (words : List (String Z)) (accepted : IsAccepted files kinds words)
