@@ -4,17 +4,17 @@ use Rattle.std.specs.List.{find}
 use Rattle.std.specs.Option.{option_map, option_and_then, is_some}
 use Rattle.std.proofs.lemmas.Bool.{cases_lt}
 use Rattle.vir_term.specs.Tree.{Tree, rev, seq, par, loop, exactly}
-use Rattle.vir_synth.specs.Terms.{joined, splits, compositions}
+use Rattle.vir_synth.specs.Terms.{joins, splits, compositions}
 use Rattle.vir_synth.specs.Alike.{Composes, Respects, FindsNone, IsServed}
 use Rattle.vir_synth.proofs.Finding.{find-map, find_agree, none_in_first, none_in_second, none_of_map, same_in_both, some_passes, first_joined, find-joined, none_joined}
 
-none_in_splits : (p : Tree → Bool) (op : Tree → Tree → Tree) (at : ℕ → List Tree) (left right i j : ℕ) → left ≤ i → i + suc j ≡ left + right → find p (splits op at left right) ≡ None → find p (joined op (at i) (at (suc j))) ≡ None
+none_in_splits : (p : Tree → Bool) (op : Tree → Tree → Tree) (at : ℕ → List Tree) (left right i j : ℕ) → left ≤ i → i + suc j ≡ left + right → find p (splits op at left right) ≡ None → find p (joins op (at i) (at (suc j))) ≡ None
 unfolding splits
 none_in_splits p op at left zero i j l e h = absurd (omega arith)
 none_in_splits p op at left (suc right) i j l e h = elim (cases_lt left i) [
-  | inl below ↦ none_in_splits p op at (suc left) right i j (omega arith) (omega arith) (none_in_second p (joined op (at left) (at (suc right))) (splits op at (suc left) right) h)
+  | inl below ↦ none_in_splits p op at (suc left) right i j (omega arith) (omega arith) (none_in_second p (joins op (at left) (at (suc right))) (splits op at (suc left) right) h)
   | inr above ↦ (let s : left ≡ i = omega arith in let k : right ≡ j = omega arith in
-      subst (λ a. find p (joined op (at a) (at (suc j))) ≡ None) s (subst (λ b. find p (joined op (at left) (at (suc b))) ≡ None) k (none_in_first p (joined op (at left) (at (suc right))) (splits op at (suc left) right) h)))
+      subst (λ a. find p (joins op (at a) (at (suc j))) ≡ None) s (subst (λ b. find p (joins op (at left) (at (suc b))) ≡ None) k (none_in_first p (joins op (at left) (at (suc right))) (splits op at (suc left) right) h)))
 ]
 
 module _ (Same : Tree → Tree → Type 0) (composes : Composes Same) (at kept : ℕ → List Tree) (n : ℕ) (none_of_none : at 0 ≡ []) (composed : (i : ℕ) → 1 ≤ i → i < n → at (suc i) ≡ compositions at i)
@@ -57,28 +57,28 @@ module _ (Same : Tree → Tree → Type 0) (composes : Composes Same) (at kept :
   looped_served : find p (map (loop (exactly 1)) (at n)) ≡ find p (map (loop (exactly 1)) (kept n))
   looped_served = find-map p (loop (exactly 1)) (at n) ∙ (ap (option_map (loop (exactly 1))) (served n (omega arith) (λ t. p (loop (exactly 1) t)) (λ t u s. respects (loop (exactly 1) t) (loop (exactly 1) u) (composes.looped t u s)) none_looped) ∙ sym (find-map p (loop (exactly 1)) (kept n)))
 
-  module _ (op : Tree → Tree → Tree) (joins : (t t' u u' : Tree) → Same t t' → Same u u' → Same (op t u) (op t' u')) (none_split : (i : ℕ) → 1 ≤ i → i < n → find p (splits op at 1 (i - 1)) ≡ None) where
+  module _ (op : Tree → Tree → Tree) (carries : (t t' u u' : Tree) → Same t t' → Same u u' → Same (op t u) (op t' u')) (none_split : (i : ℕ) → 1 ≤ i → i < n → find p (splits op at 1 (i - 1)) ≡ None) where
     -- no composition of a smaller size passes
-    none_of_two : (i j : ℕ) → 1 ≤ i → i + j < n → find p (joined op (at i) (at j)) ≡ None
-    none_of_two i zero l h = subst (λ xs. find p (joined op (at i) xs) ≡ None) (sym none_of_none) (none_with_none (at i)) where
-      none_with_none : (xs : List Tree) → find p (joined op xs []) ≡ None
+    none_of_two : (i j : ℕ) → 1 ≤ i → i + j < n → find p (joins op (at i) (at j)) ≡ None
+    none_of_two i zero l h = subst (λ xs. find p (joins op (at i) xs) ≡ None) (sym none_of_none) (none_with_none (at i)) where
+      none_with_none : (xs : List Tree) → find p (joins op xs []) ≡ None
       none_with_none [] = refl
       none_with_none (x ∷ xs) = none_with_none xs
     none_of_two i (suc j) l h = none_in_splits p op at 1 (i + suc j - 1) i j l (omega arith) (none_split (i + suc j) (omega arith) h)
 
     -- each first term finds in the kept second ones what it finds in all of them
-    seconds_served : (xs : List Tree) (j : ℕ) → j ≤ n → ((i : ℕ) → i < j → find p (joined op xs (at i)) ≡ None) → find p (joined op xs (at j)) ≡ find p (joined op xs (kept j))
+    seconds_served : (xs : List Tree) (j : ℕ) → j ≤ n → ((i : ℕ) → i < j → find p (joins op xs (at i)) ≡ None) → find p (joins op xs (at j)) ≡ find p (joins op xs (kept j))
     seconds_served [] j l none = refl
     seconds_served (x ∷ xs) j l none =
-        same_in_both p (map (op x) (at j)) (joined op xs (at j)) (map (op x) (kept j)) (joined op xs (kept j))
-        (find-map p (op x) (at j) ∙ (ap (option_map (op x)) (served j l (λ y. p (op x y)) (λ t u s. respects (op x t) (op x u) (joins x x t u (composes.itself x) s))
-        (λ i k. none_of_map p (op x) (at i) (none_in_first p (map (op x) (at i)) (joined op xs (at i)) (none i k)))) ∙ sym (find-map p (op x) (kept j))))
-        (seconds_served xs j l (λ i k. none_in_second p (map (op x) (at i)) (joined op xs (at i)) (none i k)))
+        same_in_both p (map (op x) (at j)) (joins op xs (at j)) (map (op x) (kept j)) (joins op xs (kept j))
+        (find-map p (op x) (at j) ∙ (ap (option_map (op x)) (served j l (λ y. p (op x y)) (λ t u s. respects (op x t) (op x u) (carries x x t u (composes.itself x) s))
+        (λ i k. none_of_map p (op x) (at i) (none_in_first p (map (op x) (at i)) (joins op xs (at i)) (none i k)))) ∙ sym (find-map p (op x) (kept j))))
+        (seconds_served xs j l (λ i k. none_in_second p (map (op x) (at i)) (joins op xs (at i)) (none i k)))
 
     respects_first : (ys : List Tree) → Respects Same (some_passes p op ys)
-    respects_first ys t u s = ap is_some (find_agree (λ y. p (op t y)) (λ y. p (op u y)) (λ y. respects (op t y) (op u y) (joins t u y y s (composes.itself y))) ys)
+    respects_first ys t u s = ap is_some (find_agree (λ y. p (op t y)) (λ y. p (op u y)) (λ y. respects (op t y) (op u y) (carries t u y y s (composes.itself y))) ys)
 
-    joined_served : (i j : ℕ) → 1 ≤ i → 1 ≤ j → i + j ≡ n → find p (joined op (at i) (at j)) ≡ find p (joined op (kept i) (kept j))
+    joined_served : (i j : ℕ) → 1 ≤ i → 1 ≤ j → i + j ≡ n → find p (joins op (at i) (at j)) ≡ find p (joins op (kept i) (kept j))
     joined_served i j l k e =
         seconds_served (at i) j (omega arith) (λ r h. none_of_two i r l (omega arith))
         ∙ (find-joined p op (at i) (kept j)
@@ -93,7 +93,7 @@ module _ (Same : Tree → Tree → Type 0) (composes : Composes Same) (at kept :
     unfolding splits
     splits_served left zero l e = refl
     splits_served left (suc right) l e =
-        same_in_both p (joined op (at left) (at (suc right))) (splits op at (suc left) right) (joined op (kept left) (kept (suc right))) (splits op kept (suc left) right)
+        same_in_both p (joins op (at left) (at (suc right))) (splits op at (suc left) right) (joins op (kept left) (kept (suc right))) (splits op kept (suc left) right)
         (joined_served left (suc right) l (omega arith) e) (splits_served (suc left) right (omega arith) (omega arith))
 
   -- in all compositions the same is found first as in those of the kept terms

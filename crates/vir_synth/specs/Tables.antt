@@ -8,10 +8,10 @@ use Rattle.vir_synth.specs.declared.form.Single.{Single}
 use Rattle.vir_synth.specs.declared.form.Single.TheVariants as single
 use Rattle.vir_synth.specs.declared.table.Found.{Found}
 use Rattle.vir_synth.specs.declared.table.Table.{Table}
-use Rattle.vir_synth.specs.declared.numbered.Numbered.{Numbered}
+use Rattle.vir_derive.specs.declared.term_signature.Signature.{Signature}
 use Rattle.vir_synth.specs.Alike.{HaveOneSignature, Serves}
-use Rattle.vir_synth.specs.Listed.{is_listed}
-use Rattle.vir_synth.specs.Numbered.{IsNumberedOf, equal_numbered}
+use Rattle.vir_derive.specs.Numbers.{is_listed}
+use Rattle.vir_derive.specs.Signatures.{IsSignatureOf, are_equal}
 
 -- the composition of one term
 abbrev pub of_one : Single → Tree → Tree
@@ -29,13 +29,13 @@ terms_of founds = map (λ f. tree f.term) founds
 
 -- A term that was found stands beside its signature.
 abbrev pub IsSigned : List ℕ → Found → Type 0
-IsSigned numbers f = IsNumberedOf numbers f.signature (tree f.term)
+IsSigned numbers f = IsSignatureOf numbers f.signature (tree f.term)
 
 -- What a table holds of the terms offered to it, where these terms were kept before: each signature that was seen is that of a term
 -- that is kept, and a test that asks for signatures alone and passes no earlier term finds first in the kept terms what it finds first
 -- in the offered ones.
 pub record Holds (numbers : List ℕ) (before offered : List Tree) (table : Table) : Type 0 where
-  pub known : (s : Numbered) → contains equal_numbered table.seen s ≡ true → (t : Tree) × Contains (before ++ terms_of table.found.items) t × IsNumberedOf numbers s t
+  pub known : (s : Signature) → contains are_equal table.seen s ≡ true → (t : Tree) × Contains (before ++ terms_of table.found.items) t × IsSignatureOf numbers s t
   pub signed : All (IsSigned numbers) table.found.items
   pub serves : Serves (HaveOneSignature (is_listed numbers)) before offered (terms_of table.found.items)
 

@@ -4,15 +4,15 @@ use Rattle.vir_term.specs.declared.leaf.Leaf.{Leaf}
 use Rattle.vir_term.specs.Tree.{Tree, leaf, rev, seq, par, loop, exactly}
 
 -- each of the first terms composed with each of the second ones
-abbrev pub joined : (Tree → Tree → Tree) → List Tree → List Tree → List Tree
-joined op [] seconds = []
-joined op (first ∷ firsts) seconds = map (op first) seconds ++ joined op firsts seconds
+abbrev pub joins : (Tree → Tree → Tree) → List Tree → List Tree → List Tree
+joins op [] seconds = []
+joins op (first ∷ firsts) seconds = map (op first) seconds ++ joins op firsts seconds
 
 -- The compositions of a first and a second term, by the size of the first one, which begins with `left`, where that of the second
 -- one is `right` then. `at` has the terms of each size.
 unfoldable pub splits : (Tree → Tree → Tree) → (ℕ → List Tree) → ℕ → ℕ → List Tree
 splits op at left zero = []
-splits op at left (suc right) = joined op (at left) (at (suc right)) ++ splits op at (suc left) right
+splits op at left (suc right) = joins op (at left) (at (suc right)) ++ splits op at (suc left) right
 
 -- the compositions that have one module or composition more than n: revisions, loops, sequences, parallel compositions
 abbrev pub compositions : (ℕ → List Tree) → ℕ → List Tree

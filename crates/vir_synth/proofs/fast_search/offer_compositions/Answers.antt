@@ -2,13 +2,13 @@ use Rattle.std.proofs.Common.{List, ℕ, length, map, subst, ◌-◌, ◌<◌, a
 use Rattle.vir_term.specs.Tree.{rev, par, loop, exactly}
 use Rattle.vir_synth.specs.Terms.{splits, compositions}
 use Rattle.vir_synth.specs.Tables.{terms_of, Adds}
-use Rattle.vir_synth.specs.Searches.{kept, AreSigned}
+use Rattle.vir_synth.specs.Searches.{kept_at, AreSigned}
 use Rattle.vir_synth.proofs.Searching.{ok_then, compositions_offered, signed_in}
-use Rattle.vir_synth.proofs.search.offer_compositions.Goals as goal
+use Rattle.vir_synth.proofs.fast_search.offer_compositions.Goals as goal
 
 pub returns : goal.returns
-returns c = ok_then ((numbers : List ℕ) → AreSigned numbers c.args.sizes.now → Adds numbers (splits par (kept c.args.sizes.now) 1 (length c.args.sizes.now - 1)) c.offer_splits.new.table c.offer_splits-2.new.table)
-    ((numbers : List ℕ) → AreSigned numbers c.args.sizes.now → Adds numbers (compositions (kept c.args.sizes.now) (length c.args.sizes.now)) c.args.table.now c.offer_splits-2.new.table)
+returns c = ok_then ((numbers : List ℕ) → AreSigned numbers c.args.sizes.now → Adds numbers (splits par (kept_at c.args.sizes.now) 1 (length c.args.sizes.now - 1)) c.offer_splits.new.table c.offer_splits-2.new.table)
+    ((numbers : List ℕ) → AreSigned numbers c.args.sizes.now → Adds numbers (compositions (kept_at c.args.sizes.now) (length c.args.sizes.now)) c.args.table.now c.offer_splits-2.new.table)
     c.offer_splits-2.result c.offer_splits-2.ensures
     (λ pars numbers signed.
     (let last : length c.args.sizes.now - 1 < length c.args.sizes.now = omega arith in
