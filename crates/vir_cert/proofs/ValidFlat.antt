@@ -39,7 +39,7 @@ use Rattle.vir_rules.specs.Table.{Rule, table}
 use Rattle.vir_rules.specs.Named.{IsPropInRange}
 use Rattle.vir_rules.proofs.ValidRules.{valid_rules}
 use Rattle.vir_cert.specs.Certs.{Cert}
-use Rattle.vir_cert.specs.Texts.{IsCert}
+use Rattle.vir_cert.specs.Texts.{IsCert, IsValid}
 
 -- ---- how the rows of the table descend
 
@@ -48,9 +48,11 @@ abbrev heights : List ℕ
 heights =
     0 ∷ 0 ∷ 0 ∷ 1 ∷ 0 ∷ 0 ∷ 0 ∷ 2 ∷ 1 ∷ 0 ∷ 0 ∷ 1 ∷ 2 ∷ 1 ∷ 0 ∷ 0 ∷ 1 ∷ 2 ∷ 0 ∷ []
 
+-- that number of a property
 abbrev pub height : Prop → ℕ
 height p = slice_index_or heights (rank p) 0
 
+-- that number of a property as a row writes it
 abbrev height_of : Wanted → ℕ
 height_of (Is p) = height p
 height_of DefersK = 0
@@ -70,11 +72,13 @@ is_inner M = true
 is_inner N = true
 is_inner T = false
 
+-- whether it stands for the first part
 abbrev is_first : Part → Bool
 is_first M = true
 is_first N = false
 is_first T = false
 
+-- whether it stands for the term, or in a pairing for the other one
 abbrev is_whole : Part → Bool
 is_whole M = false
 is_whole N = false
@@ -96,10 +100,12 @@ pair_descends SeqRight (need.Disj left right) = is_whole left && is_first right
 pair_descends RevRight (need.Disj left right) = is_whole left && is_first right
 pair_descends _ (need.Of asked part) = false
 
+-- each premise of a conclusion is such
 abbrev all_descend : Conclusion → List Need → Bool
 all_descend (Has wanted shape) needs = list_all (descends wanted shape) needs
 all_descend (Apart pairing) needs = list_all (pair_descends pairing) needs
 
+-- a rule of which that is so
 abbrev row_descends : Rule → Bool
 row_descends row = all_descend row.conclusion row.premises
 
@@ -246,6 +252,7 @@ some_levels (loop end body) = omega arith
 
 -- ---- how deep a derivation of a claim may be
 
+-- at most three levels for each level of a term, and for two terms their levels together
 abbrev pub IsFlat : ℕ → Claim → Type 0
 IsFlat depth (of p t) = depth + 2 ≤ 3 * nesting t + height p
 IsFlat depth (disj left right) = depth + 1 ≤ nesting left + nesting right
@@ -254,6 +261,7 @@ IsFlat depth (disj left right) = depth + 1 ≤ nesting left + nesting right
 abbrev Below : ℕ → Claim → Type 0
 Below n c = (depth : ℕ) → IsFlat depth c → depth ≤ n
 
+-- the same for each of these claims
 abbrev AllBelow : ℕ → List Claim → Type 0
 AllBelow n [] = ⊤
 AllBelow n (c ∷ rest) = Below n c × AllBelow n rest
@@ -301,6 +309,7 @@ module _ (p : Prop) (t : Tree) (wanted : Wanted) (shape : Shape) (k : ℕ) (same
 -- ---- premises of a property
 
 module _ (p : Prop) (t : Tree) (needs : List Need) (needed : List Claim) where
+  -- the premises that letters give
   abbrev given : Option Letters → Option (List Claim)
   given letters = option_map (λ letters. map (filled letters) needs) letters
 
@@ -494,8 +503,7 @@ valid_is_flat d p t valid within =
     let small = height_small p in
     omega arith
 
-pub valid_is_cert : (c : Cert) → IsWithinLimits c.term → IsPropInRange c.prop → Valid c.derivation (of c.prop c.term)
-    → IsCert c
+pub valid_is_cert : (c : Cert) → IsWithinLimits c.term → IsPropInRange c.prop → IsValid c → IsCert c
 valid_is_cert c term prop valid =
     let levels = valid_is_flat c.derivation c.prop c.term valid (omega (arith, term.flat)) in
     record { term = term; prop = prop; rules = valid_rules c.derivation (of c.prop c.term) valid; flat = omega arith }

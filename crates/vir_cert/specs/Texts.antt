@@ -3,6 +3,8 @@ use Rattle.std.specs.Prelude.{ℕ, ◌≤◌, Bool, true, false, not, ◌&&◌, 
 use Rattle.vir_term.specs.Tree.{Tree, leaf, rev, seq, par, loop, exactly, at_most}
 use Rattle.vir_term.specs.Limits.{IsWithinLimits}
 use Rattle.vir_term.specs.Text.{term_text}
+use Rattle.vir_rules.specs.Claims.{of}
+use Rattle.vir_rules.specs.Derivations.{Valid}
 use Rattle.vir_rules.specs.Named.{IsPropInRange}
 use Rattle.vir_rules.specs.Props.{prop_text}
 use Rattle.vir_rules.specs.RuleTrees.{AreRules, RuleTree, RuleTrees, node, none, more, nesting}
@@ -52,3 +54,7 @@ pub record IsCert (c : Cert) : Type 0 where
   pub prop : IsPropInRange c.prop
   pub rules : AreRules 95 c.derivation
   pub flat : nesting c.derivation ≤ 256
+
+-- a certificate whose derivation derives its property of its term
+abbrev pub IsValid : Cert → Type 0
+IsValid c = Valid c.derivation (of c.prop c.term)

@@ -9,7 +9,7 @@ ghost use Rattle.vir_rules.specs.Named.{IsPropInRange};
 ghost use Rattle.vir_rules.specs.RuleTrees.{RuleTree, nesting as levels};
 ghost use Rattle.vir_cert.specs.Certs.{Cert, cert_of};
 ghost use Rattle.vir_cert.specs.FirstReader.{first_cert_of};
-ghost use Rattle.vir_cert.specs.Texts.{IsCert, cert_text};
+ghost use Rattle.vir_cert.specs.Texts.{IsCert, IsValid, cert_text};
 
 /// A printed certificate that isn't too long is read as that certificate, whichever version it is printed in.
 pub fn printed_certificates_are_read()
@@ -32,6 +32,5 @@ pub fn first_certificates_are_read()
 /// the term, so such a certificate can be printed and read, if the text isn't too long.
 pub fn valid_certificates_are_within_limits()
     ensures levels { (d : RuleTree) (p : Prop) (t : Tree) → Valid d (of p t) → term_levels t ≤ 64 → levels d ≤ 192 }
-    ensures certificates { (c : Cert) → IsWithinLimits c.term → IsPropInRange c.prop
-        → Valid c.derivation (of c.prop c.term) → IsCert c }
+    ensures certificates { (c : Cert) → IsWithinLimits c.term → IsPropInRange c.prop → IsValid c → IsCert c }
 {}

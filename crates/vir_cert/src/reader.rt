@@ -74,8 +74,7 @@ fn read_prop_part(
     list: &[Token],
     from: usize,
 ) -> Result<PropEnd, TextError>
-    ensures { Gives (λ end. (end.prop, drop end.next list.now)) result
-        (prop_part version text.now (drop from list.now)) }
+    ensures { Gives (λ e. (e.prop, drop e.next list.now)) result (prop_part version text.now (drop from list.now)) }
 {
     read_label(text, list, from, "property".as_bytes())?;
     let RawEnd { raw, next } = read_raw(alloc, text, list, from + 1)?;
