@@ -1,0 +1,4 @@
+pub mod ElectionLines
+pub mod GainLemmas
+pub mod WeighedLines
+pub mod WeightLaws
