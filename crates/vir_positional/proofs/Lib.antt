@@ -1,4 +1,10 @@
 pub mod ElectionLines
 pub mod GainLemmas
+pub mod Leaders
+pub mod LiftedEliminations
+pub mod LiftedPlaces
+pub mod NamedScores
+pub mod ServedSplits
+pub mod SplitLaws
 pub mod WeighedLines
 pub mod WeightLaws
