@@ -1,5 +1,6 @@
 -- What is known of a line of an election's profile.
-use Rattle.std.proofs.Common.{◌≡◌, ℕ, zero, suc, ◌+◌, ◌-◌, ◌*◌, ◌^◌, ◌<◌, ◌≤◌, List, [], ◌∷◌, length, get_or, Option, Some, None, refl, sym, ap, ◌∙◌, arith}
+use Rattle.std.proofs.Common.{◌≡◌, ℕ, zero, suc, ◌+◌, ◌-◌, ◌*◌, ◌^◌, ◌<◌, ◌≤◌, List, [], ◌∷◌, length, get_or, Option}
+use Rattle.std.proofs.Common.{Some, None, refl, sym, ap, ◌∙◌, arith}
 use Rattle.std.specs.Prelude.{slice_get}
 use Rattle.std.specs.FinSet as set
 use Rattle.vir_altset.specs.Sets.{all, limit}
@@ -20,7 +21,8 @@ record IsGot (lines : List Entry) (i : ℕ) (line : Entry) : Type 0 where
 got : (lines : List Entry) (i : ℕ) (line : Entry) → slice_get lines i ≡ Some line → IsGot lines i line
 got [] i line is = cc is
 got (first ∷ rest) zero line is = record { within = omega arith; here = cc is }
-got (first ∷ rest) (suc i) line is = let later = got rest i line is in let inside = later.within in record { within = omega arith; here = later.here }
+got (first ∷ rest) (suc i) line is = let later = got rest i line is in let inside = later.within
+    in record { within = omega arith; here = later.here }
 
 pub none_got : (lines : List Entry) (i : ℕ) → slice_get lines i ≡ None → length lines ≤ i
 none_got [] i is = omega arith
@@ -35,13 +37,15 @@ pub record IsLine (votes : Votes) (i : ℕ) (line : Entry) : Type 0 where
   pub alternatives : AreAlternatives limit line.order
   pub few : length line.order ≤ limit
 
-pub line_at : (votes : Votes) (i : ℕ) (line : Entry) → IsProfile votes → slice_get votes.lines i ≡ Some line → IsLine votes i line
+pub line_at : (votes : Votes) (i : ℕ) (line : Entry) → IsProfile votes → slice_get votes.lines i ≡ Some line
+    → IsLine votes i line
 line_at votes i line limits is = record {
   within = there.within;
   here = there.here;
   lists = lists;
   alternatives = alternatives_of votes.alternatives line.order limits.few none;
-  few = (let size = len-listing line.order (all votes.alternatives) lists in let whole = len-all votes.alternatives in let most = limits.few in omega arith);
+  few = (let size = len-listing line.order (all votes.alternatives) lists in let whole = len-all votes.alternatives
+      in let most = limits.few in omega arith);
 }
   where
     there : IsGot votes.lines i line
@@ -54,11 +58,13 @@ line_at votes i line limits is = record {
     lists = listing_of_accepted votes.alternatives line.order none
 
 -- ---- sums so far
-pub fits : (n gain k rest total voters : ℕ) → gain ≡ k → n + (k + rest) ≡ total → total ≤ voters * 1000000 → voters ≤ 2 ^ 64 - 1 → n + gain < 2 ^ 127
+pub fits : (n gain k rest total voters : ℕ) → gain ≡ k → n + (k + rest) ≡ total → total ≤ voters * 1000000
+    → voters ≤ 2 ^ 64 - 1 → n + gain < 2 ^ 127
 fits n gain k rest total voters is so_far most few = omega arith
 
 pub goes_on : (n n' gain k rest total : ℕ) → n' ≡ n + gain → gain ≡ k → n + (k + rest) ≡ total → n' + rest ≡ total
 goes_on n n' gain k rest total more is so_far = omega arith
 
-pub small_sum : (n rest total voters : ℕ) → n + rest ≡ total → total ≤ voters * 1000000 → voters ≤ 2 ^ 64 - 1 → n ≤ 1000000 * 2 ^ 64
+pub small_sum : (n rest total voters : ℕ) → n + rest ≡ total → total ≤ voters * 1000000 → voters ≤ 2 ^ 64 - 1
+    → n ≤ 1000000 * 2 ^ 64
 small_sum n rest total voters so_far most few = omega arith

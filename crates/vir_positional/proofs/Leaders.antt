@@ -1,5 +1,6 @@
 -- The members of a set whom none passes, and what a lift does to them.
-use Rattle.std.proofs.Common.{◌≡◌, ◌≢◌, inl, inr, ℕ, Bool, true, false, true≢false, not, ◌||◌, ◌&&◌, nat_eq, List, [], ◌∷◌, refl, sym, ap, ◌∙◌, subst, arith, eqb-true, ℤ, ◌≤ℤ◌, ◌<ℤ◌, int_lt}
+use Rattle.std.proofs.Common.{◌≡◌, ◌≢◌, inl, inr, ℕ, Bool, true, false, true≢false, not, ◌||◌, ◌&&◌, nat_eq, List, []}
+use Rattle.std.proofs.Common.{◌∷◌, refl, sym, ap, ◌∙◌, subst, arith, eqb-true, ℤ, ◌≤ℤ◌, ◌<ℤ◌, int_lt}
 use Rattle.std.proofs.lemmas.Bool.Decides.{nat_tests}
 use Rattle.std.proofs.lemmas.Int.{ints}
 use Rattle.std.specs.FinSet as set
@@ -18,7 +19,8 @@ later_there : (b c : Bool) → c ≡ true → (b || c) ≡ true
 later_there b c there = grind arith
 
 -- where no member passes a test, none is found
-pub list_any-none : (t : ℕ → Bool) (a : Set) → ((z : ℕ) → set.contains a z ≡ true → t z ≡ false) → list_any t (set.items a) ≡ false
+pub list_any-none : (t : ℕ → Bool) (a : Set) → ((z : ℕ) → set.contains a z ≡ true → t z ≡ false)
+    → list_any t (set.items a) ≡ false
 list_any-none t a none = go (set.items a) (λ z there. none z (in_items a z ∙ there))
   where
     step : (b c : Bool) → b ≡ false → c ≡ false → (b || c) ≡ false
@@ -26,10 +28,12 @@ list_any-none t a none = go (set.items a) (λ z there. none z (in_items a z ∙ 
 
     go : (list : List ℕ) → ((z : ℕ) → list_any (nat_eq z) list ≡ true → t z ≡ false) → list_any t list ≡ false
     go [] none = refl
-    go (z ∷ rest) none = step (t z) (list_any t rest) (none z (first_there z _)) (go rest (λ y there. none y (later_there _ _ there)))
+    go (z ∷ rest) none = step (t z) (list_any t rest) (none z (first_there z _))
+        (go rest (λ y there. none y (later_there _ _ there)))
 
 -- where none is found, no member passes
-pub list_any-each : (t : ℕ → Bool) (a : Set) → list_any t (set.items a) ≡ false → (z : ℕ) → set.contains a z ≡ true → t z ≡ false
+pub list_any-each : (t : ℕ → Bool) (a : Set) → list_any t (set.items a) ≡ false → (z : ℕ) → set.contains a z ≡ true
+    → t z ≡ false
 list_any-each t a none z member = elim (t z) as (λ b. t z ≡ b → b ≡ false) [
   | true ↦ λ e. absurd (true≢false (sym (finds t (set.items a) z (sym (in_items a z) ∙ member) e) ∙ none))
   | false ↦ λ e. refl
@@ -59,7 +63,8 @@ pub leads_of_test : (f : ℕ → ℤ) (a : Set) (y : ℕ) → is_passed f a y �
 leads_of_test f a y test z member = not_less (f y) (f z) (list_any-each (λ z. int_lt (f y) (f z)) a test z member)
 
 pub test_of_leads : (f : ℕ → ℤ) (a : Set) (y : ℕ) → Leads f a y → is_passed f a y ≡ false
-test_of_leads f a y leads = list_any-none (λ z. int_lt (f y) (f z)) a (λ z member. test_not_less (f y) (f z) (leads z member))
+test_of_leads f a y leads = list_any-none (λ z. int_lt (f y) (f z)) a (λ z member. test_not_less (f y) (f z)
+    (leads z member))
 
 -- a member of a list whose f is greatest
 record Greatest (f : ℕ → ℤ) (list : List ℕ) : Type 0 where
@@ -71,20 +76,38 @@ after : (u v w : ℤ) → int_lt v w ≡ true → u ≤ℤ v → u ≤ℤ w
 after u v w less most = grind (arith, ints)
 
 -- what holds of the first and of the others holds of each
-each_there : (P : ℕ → Type 0) (y : ℕ) (rest : List ℕ) → P y → ((z : ℕ) → list_any (nat_eq z) rest ≡ true → P z) → (z : ℕ) → list_any (nat_eq z) (y ∷ rest) ≡ true → P z
-each_there P y rest first others z there = elim (nat_eq z y) as (λ b. nat_eq z y ≡ b → (b || list_any (nat_eq z) rest) ≡ true → P z) [
-  | true ↦ λ e _. subst P (sym (eqb-true z y e)) first
-  | false ↦ λ e more. others z more
-] refl there
+each_there : (P : ℕ → Type 0) (y : ℕ) (rest : List ℕ) → P y → ((z : ℕ) → list_any (nat_eq z) rest ≡ true → P z)
+    → (z : ℕ) → list_any (nat_eq z) (y ∷ rest) ≡ true → P z
+each_there P y rest first others z there = elim (nat_eq z y) as (λ b. nat_eq z y ≡ b → (b || list_any (nat_eq z) rest)
+    ≡ true → P z) [
+      | true ↦ λ e _. subst P (sym (eqb-true z y e)) first
+      | false ↦ λ e more. others z more
+    ] refl there
 
 greatest_of : (f : ℕ → ℤ) (y : ℕ) (rest : List ℕ) → Greatest f (y ∷ rest)
-greatest_of f y [] = record { one = y; there = first_there y false; leads = each_there (λ z. f z ≤ℤ f y) y [] (itself (f y)) (λ z there. absurd (true≢false (sym there))) }
+greatest_of f y [] =
+    record {
+      one = y;
+      there = first_there y false;
+      leads = each_there (λ z. f z ≤ℤ f y) y [] (itself (f y))
+          (λ z there. absurd (true≢false (sym there)));
+    }
 greatest_of f y (x ∷ rest) = either (greatest_of f x rest)
   where
     either : Greatest f (x ∷ rest) → Greatest f (y ∷ x ∷ rest)
     either g = elim (int_lt (f g.one) (f y)) as (λ b. int_lt (f g.one) (f y) ≡ b → Greatest f (y ∷ x ∷ rest)) [
-      | true ↦ λ e. record { one = y; there = first_there y _; leads = each_there (λ z. f z ≤ℤ f y) y (x ∷ rest) (itself (f y)) (λ z there. after (f z) (f g.one) (f y) e (g.leads z there)) }
-      | false ↦ λ e. record { one = g.one; there = later_there _ _ g.there; leads = each_there (λ z. f z ≤ℤ f g.one) y (x ∷ rest) (not_less (f g.one) (f y) e) g.leads }
+      | true ↦ λ e.
+          record {
+            one = y;
+            there = first_there y _;
+            leads = each_there (λ z. f z ≤ℤ f y) y (x ∷ rest) (itself (f y))
+                (λ z there. after (f z) (f g.one) (f y) e (g.leads z there));
+          }
+      | false ↦ λ e. record {
+        one = g.one;
+        there = later_there _ _ g.there;
+        leads = each_there (λ z. f z ≤ℤ f g.one) y (x ∷ rest) (not_less (f g.one) (f y) e) g.leads;
+      }
     ] refl
 
 -- a member of a set whose f is greatest
@@ -97,9 +120,11 @@ pub record Leader (f : ℕ → ℤ) (a : Set) : Type 0 where
 pub leader_of : (f : ℕ → ℤ) (a : Set) (x : ℕ) → set.contains a x ≡ true → Leader f a
 leader_of f a x inside = go (set.items a) (sym (in_items a x) ∙ inside) (in_items a)
   where
-    go : (list : List ℕ) → list_any (nat_eq x) list ≡ true → ((z : ℕ) → set.contains a z ≡ list_any (nat_eq z) list) → Leader f a
+    go : (list : List ℕ) → list_any (nat_eq x) list ≡ true → ((z : ℕ) → set.contains a z ≡ list_any (nat_eq z) list)
+        → Leader f a
     go [] there is = absurd (true≢false (sym there))
-    go (y ∷ rest) there is = let g = greatest_of f y rest in record { one = g.one; member = is g.one ∙ g.there; leads = λ z member. g.leads z (sym (is z) ∙ member) }
+    go (y ∷ rest) there is = let g = greatest_of f y rest
+        in record { one = g.one; member = is g.one ∙ g.there; leads = λ z member. g.leads z (sym (is z) ∙ member) }
 
 -- ---- under a lift
 pub other_than : (x y : ℕ) → nat_eq x y ≡ false → y ≢ x

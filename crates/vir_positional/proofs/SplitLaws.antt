@@ -1,5 +1,6 @@
 -- The eliminators that go by positional scores: whom they elect, reject and defer.
-use Rattle.std.proofs.Common.{◌≡◌, ◌≢◌, ℕ, Bool, true, false, true≢false, cond, not, ◌||◌, ◌&&◌, refl, sym, ap, ◌∙◌, arith}
+use Rattle.std.proofs.Common.{◌≡◌, ◌≢◌, ℕ, Bool, true, false, true≢false, cond, not, ◌||◌, ◌&&◌, refl, sym, ap, ◌∙◌}
+use Rattle.std.proofs.Common.{arith}
 use Rattle.std.specs.Cmp.{nat_cmp_total}
 use Rattle.std.specs.FinSet as set
 use Rattle.vir_altset.specs.Sets.{Set}
@@ -18,14 +19,18 @@ use Rattle.vir_positional.proofs.LiftedPlaces.{positional_lift}
 -- the split, by whether all are to go
 abbrev split_by : Set → Set → Bool → Split
 split_by a gone all =
-    cond all (record { elected = set.empty; rejected = set.empty; deferred = a }) (record { elected = set.empty; rejected = gone; deferred = set.difference a gone })
+    cond all (record { elected = set.empty; rejected = set.empty; deferred = a })
+    (record { elected = set.empty; rejected = gone; deferred = set.difference a gone })
 
 -- all are deferred, where all would go; otherwise those who don't
-pub eliminated-deferred : (a : Set) (t : ℕ → Bool) (y : ℕ) → set.contains (eliminated a (set.retain a t)).deferred y ≡ (set.contains a y && (set.is_subset a (set.retain a t) || not (t y)))
-eliminated-deferred a t y = elim (set.is_subset a (set.retain a t)) as (λ b. set.contains (split_by a (set.retain a t) b).deferred y ≡ (set.contains a y && (b || not (t y)))) [
-  | true ↦ all (set.contains a y) (not (t y))
-  | false ↦ contains-difference a (set.retain a t) y ∙ ap (λ b. set.contains a y && not b) (contains-retain a t y) ∙ rest (set.contains a y) (t y)
-]
+pub eliminated-deferred : (a : Set) (t : ℕ → Bool) (y : ℕ) → set.contains (eliminated a (set.retain a t)).deferred y
+    ≡ (set.contains a y && (set.is_subset a (set.retain a t) || not (t y)))
+eliminated-deferred a t y = elim (set.is_subset a (set.retain a t)) as
+    (λ b. set.contains (split_by a (set.retain a t) b).deferred y ≡ (set.contains a y && (b || not (t y)))) [
+      | true ↦ all (set.contains a y) (not (t y))
+      | false ↦ contains-difference a (set.retain a t) y ∙ ap (λ b. set.contains a y && not b) (contains-retain a t y)
+          ∙ rest (set.contains a y) (t y)
+    ]
   where
     all : (b c : Bool) → b ≡ (b && (true || c))
     all b c = grind arith
@@ -41,21 +46,27 @@ eliminated-elected a gone = elim (set.is_subset a gone) as (λ b. (split_by a go
 ]
 
 -- x is deferred by a test that it passes no sooner, and passes only with all where all passed
-deferred_still : (a : Set) (x : ℕ) (t u : ℕ → Bool) → set.contains a x ≡ true → (u x ≡ true → t x ≡ true) → (AllPass t a → u x ≡ true → AllPass u a)
-    → set.contains (eliminated a (set.retain a t)).deferred x ≡ true → set.contains (eliminated a (set.retain a u)).deferred x ≡ true
-deferred_still a x t u inside sooner with_all before = eliminated-deferred a u x ∙ step _ _ _ _ _ inside sooner (λ all now. whole (with_all (each all) now)) (sym (eliminated-deferred a t x) ∙ before)
+deferred_still : (a : Set) (x : ℕ) (t u : ℕ → Bool) → set.contains a x ≡ true → (u x ≡ true → t x ≡ true)
+    → (AllPass t a → u x ≡ true → AllPass u a)
+    → set.contains (eliminated a (set.retain a t)).deferred x ≡ true
+    → set.contains (eliminated a (set.retain a u)).deferred x ≡ true
+deferred_still a x t u inside sooner with_all before = eliminated-deferred a u x ∙ step _ _ _ _ _ inside sooner
+    (λ all now. whole (with_all (each all) now)) (sym (eliminated-deferred a t x) ∙ before)
   where
-    step : (i b c d e : Bool) → i ≡ true → (e ≡ true → c ≡ true) → (b ≡ true → e ≡ true → d ≡ true) → (i && (b || not c)) ≡ true → (i && (d || not e)) ≡ true
+    step : (i b c d e : Bool) → i ≡ true → (e ≡ true → c ≡ true) → (b ≡ true → e ≡ true → d ≡ true)
+        → (i && (b || not c)) ≡ true → (i && (d || not e)) ≡ true
     step i b c d e inside sooner with_all before = grind arith
 
     each : set.is_subset a (set.retain a t) ≡ true → AllPass t a
-    each all y member = second (set.contains a y) (t y) (sym (contains-retain a t y) ∙ set.is_subset-contains nat_cmp_total a (set.retain a t) all y member)
+    each all y member = second (set.contains a y) (t y) (sym (contains-retain a t y) ∙ set.is_subset-contains
+        nat_cmp_total a (set.retain a t) all y member)
       where
         second : (b c : Bool) → (b && c) ≡ true → c ≡ true
         second b c both = grind arith
 
     whole : AllPass u a → set.is_subset a (set.retain a u) ≡ true
-    whole all = set.contains-is_subset nat_cmp_total a (set.retain a u) (λ y member. contains-retain a u y ∙ both (set.contains a y) (u y) member (all y member))
+    whole all = set.contains-is_subset nat_cmp_total a (set.retain a u) (λ y member. contains-retain a u y
+        ∙ both (set.contains a y) (u y) member (all y member))
       where
         both : (b c : Bool) → b ≡ true → c ≡ true → (b && c) ≡ true
         both b c one other = grind arith
@@ -65,10 +76,14 @@ pub elects_nobody : (kind : Elimination) (kept : WeightForm) → Holds Ne (posit
 elects_nobody kind kept a p on = eliminated-elected a (set.retain a (goes kind (positional kept a p) a))
 
 keeps_some : (a gone : Set) → a ≢ set.empty → (eliminated a gone).rejected ≢ a
-keeps_some a gone some = elim (set.is_subset a gone) as (λ b. set.is_subset a gone ≡ b → (split_by a gone b).rejected ≢ a) [
-  | true ↦ λ e is. some (sym is)
-  | false ↦ λ e is. true≢false (sym (set.contains-is_subset nat_cmp_total a gone (λ y member. ap (λ s. set.contains s y) is ∙ member)) ∙ e)
-] refl
+keeps_some a gone some = elim (set.is_subset a gone) as (λ b. set.is_subset a gone ≡ b → (split_by a gone b).rejected ≢
+    a) [
+      | true ↦ λ e is. some (sym is)
+      | false ↦ λ e is.
+          true≢false (sym (set.contains-is_subset nat_cmp_total a gone (λ y member. ap (λ s. set.contains s y) is
+          ∙ member))
+          ∙ e)
+    ] refl
 
 pub keep_some : (kind : Elimination) (kept : WeightForm) → Holds Nb (positional_split kind kept)
 keep_some kind kept a p on some = keeps_some a (set.retain a (goes kind (positional kept a p) a)) some
@@ -76,4 +91,5 @@ keep_some kind kept a p on some = keeps_some a (set.retain a (goes kind (positio
 pub stays_deferred : (kind : Elimination) (kept : WeightForm) → IsForm kept → Holds Dmono (positional_split kind kept)
 stays_deferred kind kept is a p q x on on_after inside lifted =
     let lift = positional_lift kept is a p q x on.lists on_after.lists inside lifted in
-    deferred_still a x (goes kind (positional kept a p) a) (goes kind (positional kept a q) a) inside (goes_no_sooner lift kind) (all_go_still lift kind)
+    deferred_still a x (goes kind (positional kept a p) a) (goes kind (positional kept a q) a) inside
+    (goes_no_sooner lift kind) (all_go_still lift kind)

@@ -1,8 +1,10 @@
--- What the code adds up line by line. Only clauses of private functions cite this; what a positional score is doesn't rest on it.
+-- What the code adds up line by line. Only clauses of private functions cite this; what a positional score is doesn't
+-- rest on it.
 use Rattle.std.specs.Prelude.{◌≡◌, ℕ, suc, ◌+◌, ◌<◌, Bool, List, [], ◌∷◌, length, slice_index, nat_eq, if◌then◌else◌}
 use Rattle.vir_altset.specs.Sets.{limit}
 
--- what x gets of the rest of an order, before which so many members stand: at each place of a member x the gain of that place
+-- what x gets of the rest of an order, before which so many members stand: at each place of a member x the gain of that
+-- place
 abbrev pub gained : (ℕ → Bool) → (ℕ → ℕ) → ℕ → ℕ → List ℕ → ℕ
 gained is_member gain x place [] = 0
 gained is_member gain x place (y ∷ rest) =

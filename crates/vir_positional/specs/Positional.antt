@@ -10,7 +10,8 @@ use Rattle.vir_mean.specs.FixedOrders.{place}
 use Rattle.vir_positional.specs.declared.weight_form.WeightForm.{WeightForm}
 use Rattle.vir_positional.specs.Weights.{weight_of}
 
--- what x gets from the voters, by the weight that each place has: from each voter the weight of x's place, which is how many stand before it
+-- what x gets from the voters, by the weight that each place has: from each voter the weight of x's place, which is how
+-- many stand before it
 abbrev pub weighed : (ℕ → ℕ) → List Entry → ℕ → ℕ
 weighed weigh lines x = sum_by (λ line. line.weight * weigh (place x line.order)) lines
 

@@ -4,7 +4,8 @@ use Rattle.vir_positional.specs.declared.weight_form.WeightForm.{WeightForm}
 use Rattle.vir_positional.specs.declared.weight_form.WeightForm.TheVariants as form
 use Rattle.vir_positional.specs.WeightLists.{are_weights, last_weight}
 
--- the weight of a place, counted from 0, among n places: of plurality 1 at the front and 0 elsewhere; of Borda the number of places
+-- the weight of a place, counted from 0, among n places: of plurality 1 at the front and 0 elsewhere; of Borda the
+-- number of places
 -- behind it; of a list its member at that place, or its last one past its end
 abbrev pub weight_of : WeightForm → ℕ → ℕ → ℕ
 weight_of form.Plurality place n = if nat_eq place 0 then 1 else 0

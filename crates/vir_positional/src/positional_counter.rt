@@ -65,7 +65,8 @@ fn eliminates_by(own: Score, leaf: &Leaf) -> bool
 
 // Which members go where this eliminator decides, whatever its score.
 fn elimination_of(leaf: &Leaf) -> Elimination
-    ensures { (score : Score) → has_kind (eliminator_kinds score) (kind_of leaf.now) ≡ true → leaf_mean leaf.now ≡ eliminator result score }
+    ensures { (score : Score) → has_kind (eliminator_kinds score) (kind_of leaf.now) ≡ true → leaf_mean leaf.now
+        ≡ eliminator result score }
 {
     match leaf {
         Leaf::Max(_) => Elimination::Max,

@@ -16,12 +16,7 @@ use vir_tables::Election;
 /// The score of one member of the domain, by the ballots restricted to it: what it gets from all voters,
 /// from each the weight of the place at which it stands. [`positional_split`] finds the scores of all
 /// members in the same time.
-pub fn positional_score<W: Weighing>(
-    rule: &W,
-    election: &Election,
-    domain: &AltSet,
-    x: u16,
-) -> i128
+pub fn positional_score<W: Weighing>(rule: &W, election: &Election, domain: &AltSet, x: u16) -> i128
     requires part { IsPart domain.now (all election.now.profile.alternatives) }
     requires member { set.contains domain.now x ≡ true }
     ensures { result ≡ positional (W.kept rule.now) domain.now (restrict domain.now election.now.profile.lines) x }
@@ -43,7 +38,8 @@ fn fill<W: Weighing>(
     requires part { IsPart domain.now (all election.now.profile.alternatives) }
     requires members { AreMembers domain.now members.now }
     requires size { length scores.old ≡ limit }
-    ensures each { AreScores domain.now (positional (W.kept rule.now) domain.now (restrict domain.now election.now.profile.lines)) scores.new }
+    ensures each { AreScores domain.now (positional (W.kept rule.now) domain.now
+        (restrict domain.now election.now.profile.lines)) scores.new }
     ensures small { AreSmall domain.now scores.new }
 {
     let mut sums = [0u128; PLACES];
@@ -64,7 +60,8 @@ pub fn positional_split<W: Weighing>(
     domain: &AltSet,
 ) -> Split
     requires { IsPart domain.now (all election.now.profile.alternatives) }
-    ensures { result ≡ positional_split kind (W.kept rule.now) domain.now (restrict domain.now election.now.profile.lines) }
+    ensures { result ≡ positional_split kind (W.kept rule.now) domain.now
+        (restrict domain.now election.now.profile.lines) }
 {
     let mut list = [0u16; PLACES];
     let count = list_members(domain, &mut list);

@@ -51,10 +51,12 @@ fn add_line(sums: &mut [u128], order: &[u16], marks: &[bool], weights: &[u64], v
     requires listed { AreAlternatives limit order.now }
     requires few { length order.now ≤ limit }
     requires room { (x : ℕ) → is_marked marks.now x ≡ true → 1 ≤ x → x ≤ limit
-        → number_of sums.old x + gained (is_marked marks.now) (λ i. voters * slice_index weights.now i) x 0 order.now < 2 ^ 127 }
+        → number_of sums.old x
+        + gained (is_marked marks.now) (λ i. voters * slice_index weights.now i) x 0 order.now < 2 ^ 127 }
     ensures size { length sums.new ≡ limit }
     ensures added { (x : ℕ) → is_marked marks.now x ≡ true → 1 ≤ x → x ≤ limit
-        → number_of sums.new x ≡ number_of sums.old x + gained (is_marked marks.now) (λ i. voters * slice_index weights.now i) x 0 order.now }
+        → number_of sums.new x ≡ number_of sums.old x
+        + gained (is_marked marks.now) (λ i. voters * slice_index weights.now i) x 0 order.now }
 {
     let mut place = 0;
     for i in 0..order.len() {
@@ -73,9 +75,11 @@ pub(crate) fn add_up<W: Weighing>(rule: &W, election: &Election, domain: &AltSet
     requires size { length sums.old ≡ limit }
     ensures size { length sums.new ≡ limit }
     ensures sums { (x : ℕ) → set.contains domain.now x ≡ true
-        → number_of sums.new x ≡ weighed (λ i. weight_of (W.kept rule.now) i (set.len domain.now)) (restrict domain.now election.now.profile.lines) x }
+        → number_of sums.new x ≡ weighed (λ i. weight_of (W.kept rule.now) i (set.len domain.now))
+        (restrict domain.now election.now.profile.lines) x }
     ensures small { (x : ℕ) → set.contains domain.now x ≡ true → number_of sums.new x ≤ 1000000 * 2 ^ 64 }
 {
+    // that the weights and the number of voters are limited bounds the sums
     rule.form().bounded();
     let _alternatives = election.alternatives();
     let mut marks = [false; MARKS];

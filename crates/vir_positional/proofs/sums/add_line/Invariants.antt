@@ -10,6 +10,7 @@ invariant-loop-i l = record {
   size : length l.sums ≡ limit;
   few : l.place ≤ l.i;
   sums : (x : ℕ) → is_marked l.marks x ≡ true → 1 ≤ x → x ≤ limit
-      → number_of l.sums x + gained (is_marked l.marks) (λ i. l.voters * get_or l.weights i 0) x l.place (drop l.i l.order)
+      → number_of l.sums x + gained (is_marked l.marks) (λ i. l.voters * get_or l.weights i 0) x l.place
+      (drop l.i l.order)
       ≡ number_of l.fn.sums x + gained (is_marked l.marks) (λ i. l.voters * get_or l.weights i 0) x 0 l.order;
 }

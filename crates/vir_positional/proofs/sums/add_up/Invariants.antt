@@ -11,6 +11,8 @@ abbrev pub invariant-loop-i : goal.invariant-loop-i
 invariant-loop-i g l = record {
   size : length l.sums ≡ limit;
   sums : (x : ℕ) → set.contains l.domain x ≡ true
-      → number_of l.sums x + weighed (λ i. weight_of (g.W.Weighing.kept l.rule) i (set.len l.domain)) (restrict l.domain (drop l.i l.election.profile.lines)) x
-      ≡ weighed (λ i. weight_of (g.W.Weighing.kept l.rule) i (set.len l.domain)) (restrict l.domain l.election.profile.lines) x;
+      → number_of l.sums x + weighed (λ i. weight_of (g.W.Weighing.kept l.rule) i (set.len l.domain))
+      (restrict l.domain (drop l.i l.election.profile.lines)) x
+      ≡ weighed (λ i. weight_of (g.W.Weighing.kept l.rule) i (set.len l.domain))
+      (restrict l.domain l.election.profile.lines) x;
 }

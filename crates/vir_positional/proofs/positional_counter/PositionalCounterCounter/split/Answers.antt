@@ -8,6 +8,8 @@ use Rattle.vir_positional.proofs.positional_counter.PositionalCounterCounter.spl
 pub returns-clause-meaning : goal.returns-clause-meaning
 returns-clause-meaning g c =
     let kept = g.W.Weighing.kept c.self.inside.rule in
-    let served : has_kind (served_kinds kept) (kind_of c.args.leaf.now) ≡ true = ap (λ v. has_kind (served_kinds v.0) (kind_of c.args.leaf.now)) c.self.view_is ∙ c.requires.served in
+    let served : has_kind (served_kinds kept) (kind_of c.args.leaf.now) ≡ true =
+    ap (λ v. has_kind (served_kinds v.0) (kind_of c.args.leaf.now)) c.self.view_is ∙ c.requires.served in
     c.positional_split.ensures
-    ∙ served_split c.args.leaf.now c.elimination_of.result kept c.args.domain.now c.args.election.now.profile c.alternatives-alternatives.ensures.limits c.requires.part served c.elimination_of.ensures
+    ∙ served_split c.args.leaf.now c.elimination_of.result kept c.args.domain.now c.args.election.now.profile
+    c.alternatives-alternatives.ensures.limits c.requires.part served c.elimination_of.ensures
