@@ -1,5 +1,6 @@
 -- Lists of instructions at a place of a code.
-use Rattle.std.proofs.Common.{◌≡◌, ℕ, suc, ◌+◌, ◌<◌, List, [], ◌∷◌, ◌++◌, length, Some, refl, ap, ◌∙◌, subst, arith, append_assoc, length-append}
+use Rattle.std.proofs.Common.{◌≡◌, ℕ, suc, ◌+◌, ◌<◌, List, [], ◌∷◌, ◌++◌, length, Some, refl, ap, ◌∙◌, subst, arith}
+use Rattle.std.proofs.Common.{append_assoc, length-append}
 use Rattle.std.proofs.Math.Seq.{get_or-append_seam}
 use Rattle.std.proofs.lemmas.Option.{slice_get-get_or}
 use Rattle.vir_code.specs.declared.instr.Instr.{Instr}
@@ -9,11 +10,13 @@ pub has_front : (code : List Instr) (p : ℕ) (a b : List Instr) → HasAt code 
 has_front code p [] b h = tt
 has_front code p (i ∷ a) b h = (h.0, has_front code (p + 1) a b h.1)
 
-pub has_back : (code : List Instr) (p q : ℕ) (a b : List Instr) → p + length a ≡ q → HasAt code p (a ++ b) → HasAt code q b
+pub has_back : (code : List Instr) (p q : ℕ) (a b : List Instr) → p + length a ≡ q → HasAt code p (a ++ b)
+    → HasAt code q b
 has_back code p q [] b e h = let e' : p ≡ q = omega arith in subst (λ n. HasAt code n b) e' h
 has_back code p q (i ∷ a) b e h = has_back code (p + 1) q a b (omega arith) h.1
 
-pub has_both : (code : List Instr) (p q : ℕ) (a b : List Instr) → p + length a ≡ q → HasAt code p a → HasAt code q b → HasAt code p (a ++ b)
+pub has_both : (code : List Instr) (p q : ℕ) (a b : List Instr) → p + length a ≡ q → HasAt code p a → HasAt code q b
+    → HasAt code p (a ++ b)
 has_both code p q [] b e g h = let e' : q ≡ p = omega arith in subst (λ n. HasAt code n b) e' h
 has_both code p q (i ∷ a) b e g h = (g.0, has_both code (p + 1) q a b (omega arith) g.1 h)
 
@@ -44,6 +47,7 @@ has_whole [] (j ∷ is) h e = absurd (omega arith)
 has_whole (i ∷ code) [] h e = absurd (omega arith)
 has_whole (i ∷ code) (j ∷ is) h e =
     let one : 0 + 1 ≡ suc 0 = omega arith in
-    let rest : code ≡ is = has_whole code is (shift i code is 0 (subst (λ n. HasAt (i ∷ code) n is) one h.1)) (omega arith) in
+    let rest : code ≡ is = has_whole code is (shift i code is 0 (subst (λ n. HasAt (i ∷ code) n is) one h.1))
+    (omega arith) in
     let first : Some i ≡ Some j = h.0 in
     cc

@@ -3,7 +3,8 @@ use Rattle.std.proofs.Common.{◌≡◌, ℕ, ◌+◌, ◌≤◌, max, List, [],
 use Rattle.std.proofs.lemmas.List.{append-nil}
 use Rattle.vir_term.specs.Tree.{Tree, leaf, rev, seq, par, loop, End, exactly, at_most}
 use Rattle.vir_code.specs.declared.instr.Instr.{Instr}
-use Rattle.vir_code.specs.declared.instr.Instr.TheVariants.{KeepDomain, FetchDomain, JoinSeq, JoinMax, Revise, LoopBack, EndLoop}
+use Rattle.vir_code.specs.declared.instr.Instr.TheVariants.{KeepDomain, FetchDomain, JoinSeq, JoinMax, Revise, LoopBack}
+use Rattle.vir_code.specs.declared.instr.Instr.TheVariants.{EndLoop}
 use Rattle.vir_code.specs.Code.{test_of, width, code_at, code_of}
 use Rattle.vir_code.specs.Depth.{depth_of}
 use Rattle.vir_code.specs.Heights.{height_after, peak_from, peak_of}
@@ -25,7 +26,8 @@ height-test_of (exactly k) exit height = refl
 height-test_of (at_most k) exit height = refl
 
 -- a term's code adds its split, and rises to its depth
-pub peak-code_at : (p : ℕ) (t : Tree) (rest : List Instr) (height most : ℕ) → peak_from height most (code_at p t ++ rest) ≡ peak_from (height + 1) (max most (height + depth_of t)) rest
+pub peak-code_at : (p : ℕ) (t : Tree) (rest : List Instr) (height most : ℕ) → peak_from height most (code_at p t
+    ++ rest) ≡ peak_from (height + 1) (max most (height + depth_of t)) rest
 peak-code_at p (leaf l) rest height most = refl
 peak-code_at p (rev m) rest height most =
     let some = depth_positive m in
@@ -39,8 +41,10 @@ peak-code_at p (seq m n) rest height most =
     let b = code_at q n in
     ap (peak_from height most) (append_assoc (code_at p m) (KeepDomain ∷ (FetchDomain ∷ (b ++ JoinSeq ∷ []))) rest)
     ∙ peak-code_at p m (KeepDomain ∷ (FetchDomain ∷ ((b ++ JoinSeq ∷ []) ++ rest))) height most
-    ∙ ap (peak_from (height + 1) (max (max (max most (height + depth_of m)) (height + 1)) (height + 1))) (append_assoc b (JoinSeq ∷ []) rest)
-    ∙ peak-code_at q n (JoinSeq ∷ rest) (height + 1) (max (max (max most (height + depth_of m)) (height + 1)) (height + 1))
+    ∙ ap (peak_from (height + 1) (max (max (max most (height + depth_of m)) (height + 1)) (height + 1)))
+    (append_assoc b (JoinSeq ∷ []) rest)
+    ∙ peak-code_at q n (JoinSeq ∷ rest) (height + 1) (max (max (max most (height + depth_of m)) (height + 1))
+    (height + 1))
     ∙ same_peak _ _ _ _ rest (omega arith) (omega arith)
 peak-code_at p (par m n) rest height most =
     let some = depth_positive m in
@@ -55,9 +59,12 @@ peak-code_at p (par m n) rest height most =
 peak-code_at p (loop k m) rest height most =
     let some = depth_positive m in
     let b = code_at (p + 2) m in
-    ap (λ h. peak_from h (max (max most (height + 1)) h) ((b ++ LoopBack (p + 1) ∷ (EndLoop ∷ [])) ++ rest)) (height-test_of k (p + 2 + width m + 1) (height + 1))
-    ∙ ap (peak_from (height + 1) (max (max most (height + 1)) (height + 1))) (append_assoc b (LoopBack (p + 1) ∷ (EndLoop ∷ [])) rest)
-    ∙ peak-code_at (p + 2) m (LoopBack (p + 1) ∷ (EndLoop ∷ rest)) (height + 1) (max (max most (height + 1)) (height + 1))
+    ap (λ h. peak_from h (max (max most (height + 1)) h) ((b ++ LoopBack (p + 1) ∷ (EndLoop ∷ [])) ++ rest))
+    (height-test_of k (p + 2 + width m + 1) (height + 1))
+    ∙ ap (peak_from (height + 1) (max (max most (height + 1)) (height + 1)))
+    (append_assoc b (LoopBack (p + 1) ∷ (EndLoop ∷ [])) rest)
+    ∙ peak-code_at (p + 2) m (LoopBack (p + 1) ∷ (EndLoop ∷ rest)) (height + 1)
+    (max (max most (height + 1)) (height + 1))
     ∙ same_peak _ _ _ _ rest (omega arith) (omega arith)
 
 -- the depth of a term's code is the term's

@@ -2,7 +2,8 @@
 use Rattle.std.specs.Prelude.{◌≡◌, ℕ, ◌+◌, List, [], ◌∷◌, ◌++◌}
 use Rattle.vir_term.specs.Tree.{Tree, leaf, rev, seq, par, loop, End, exactly, at_most}
 use Rattle.vir_code.specs.declared.instr.Instr.{Instr}
-use Rattle.vir_code.specs.declared.instr.Instr.TheVariants.{Call, KeepDomain, FetchDomain, JoinSeq, JoinMax, Revise, StartLoop, LoopTest, UntilTest, LoopBack, EndLoop}
+use Rattle.vir_code.specs.declared.instr.Instr.TheVariants.{Call, KeepDomain, FetchDomain, JoinSeq, JoinMax, Revise}
+use Rattle.vir_code.specs.declared.instr.Instr.TheVariants.{StartLoop, LoopTest, UntilTest, LoopBack, EndLoop}
 
 -- the test of a loop, by where it ends
 abbrev pub test_of : End → ℕ → Instr

@@ -1,7 +1,8 @@
 -- For a private clause alone: the depth by a pass over the instructions, each done once.
 use Rattle.std.specs.Prelude.{ℕ, ◌+◌, ◌-◌, max, List, [], ◌∷◌}
 use Rattle.vir_code.specs.declared.instr.Instr.{Instr}
-use Rattle.vir_code.specs.declared.instr.Instr.TheVariants.{Call, KeepDomain, FetchDomain, JoinSeq, JoinMax, Revise, StartLoop, LoopTest, UntilTest, LoopBack, EndLoop}
+use Rattle.vir_code.specs.declared.instr.Instr.TheVariants.{Call, KeepDomain, FetchDomain, JoinSeq, JoinMax, Revise}
+use Rattle.vir_code.specs.declared.instr.Instr.TheVariants.{StartLoop, LoopTest, UntilTest, LoopBack, EndLoop}
 
 -- how many splits are on the stack after an instruction, where so many were there before
 abbrev pub height_after : Instr → ℕ → ℕ

@@ -76,7 +76,8 @@ fn term_before(list: &[Instr], end: usize, room: u32, levels: u32) -> Option<Pie
 // Where the two instructions between the parts of a sequence begin, if they end here.
 fn domain_kept_before(list: &[Instr], end: usize) -> Option<usize>
     requires { end ≤ length list.now }
-    ensures { MatchOption result ((at : ℕ) → at + 2 ≡ end → HasAt list.now at between → ⊥) (λ at. (at + 2 ≡ end) × HasAt list.now at between) }
+    ensures { MatchOption result ((at : ℕ) → at + 2 ≡ end → HasAt list.now at between → ⊥)
+        (λ at. (at + 2 ≡ end) × HasAt list.now at between) }
 {
     if end < 2 {
         return None;
@@ -90,7 +91,8 @@ fn domain_kept_before(list: &[Instr], end: usize) -> Option<usize>
 // The target of the jump back that ends here, if there is one.
 fn loop_back_before(list: &[Instr], end: usize) -> Option<usize>
     requires { end ≤ length list.now }
-    ensures { MatchOption result ((at test : ℕ) → at + 1 ≡ end → HasAt list.now at (LoopBack test ∷ []) → ⊥) (λ test. (at : ℕ) × (at + 1 ≡ end) × HasAt list.now at (LoopBack test ∷ [])) }
+    ensures { MatchOption result ((at test : ℕ) → at + 1 ≡ end → HasAt list.now at (LoopBack test ∷ []) → ⊥)
+        (λ test. (at : ℕ) × (at + 1 ≡ end) × HasAt list.now at (LoopBack test ∷ [])) }
 {
     if end < 1 {
         return None;
@@ -105,7 +107,9 @@ fn loop_back_before(list: &[Instr], end: usize) -> Option<usize>
 // and test for a number within the limits.
 fn loop_start_before(list: &[Instr], end: usize, exit: usize) -> Option<usize>
     requires { end ≤ length list.now }
-    ensures { MatchOption result ((at : ℕ) (k : End) → at + 2 ≡ end → HasAt list.now at (before_body k exit) → IsCount (number_of k) → ⊥) (λ at. (k : End) × (at + 2 ≡ end) × HasAt list.now at (before_body k exit) × IsCount (number_of k)) }
+    ensures { MatchOption result
+        ((at : ℕ) (k : End) → at + 2 ≡ end → HasAt list.now at (before_body k exit) → IsCount (number_of k) → ⊥)
+        (λ at. (k : End) × (at + 2 ≡ end) × HasAt list.now at (before_body k exit) × IsCount (number_of k)) }
 {
     if end < 2 {
         return None;
@@ -137,7 +141,8 @@ struct Test {
 
 // The test of a loop, of either kind, if the instruction is one.
 fn loop_test(instr: &Instr) -> Option<Test>
-    ensures { MatchOption result ((k : End) (exit : ℕ) → instr.now ≡ test_of k exit → ⊥) (λ test. (k : End) × (instr.now ≡ test_of k test.exit) × (number_of k ≡ test.k)) }
+    ensures { MatchOption result ((k : End) (exit : ℕ) → instr.now ≡ test_of k exit → ⊥)
+        (λ test. (k : End) × (instr.now ≡ test_of k test.exit) × (number_of k ≡ test.k)) }
 {
     match instr {
         Instr::LoopTest { k, exit } => Some(Test { k: *k, exit: *exit }),

@@ -50,7 +50,8 @@ bound-le n w zero = let e : w + 0 ≡ w = omega arith in subst (λ v. power n w 
 bound-le n w (suc d) =
     let rest = bound-le n w d in
     let e : suc (w + d) ≡ w + suc d = omega arith in
-    subst (λ v. power n w ≤ power n v) e (let more : power n (w + d) ≤ power n (suc (w + d)) = omega arith in omega arith)
+    subst (λ v. power n w ≤ power n v) e (let more : power n (w + d) ≤ power n (suc (w + d)) = omega arith
+    in omega arith)
 
 -- the same, of a greater number
 bound_above : (n w v : ℕ) → w ≤ v → power n w ≤ power n v

@@ -3,7 +3,8 @@ use Rattle.std.proofs.Common.{◌≡◌, ℕ, zero, suc, ◌+◌, ◌<◌, ◌�
 use Rattle.std.specs.Prelude.{⊤, slice_get}
 use Rattle.vir_term.specs.Tree.{Tree, leaf, rev, seq, par, loop, End, exactly, at_most}
 use Rattle.vir_code.specs.declared.instr.Instr.{Instr}
-use Rattle.vir_code.specs.declared.instr.Instr.TheVariants.{KeepDomain, FetchDomain, JoinSeq, JoinMax, Revise, LoopTest, UntilTest, LoopBack, EndLoop}
+use Rattle.vir_code.specs.declared.instr.Instr.TheVariants.{KeepDomain, FetchDomain, JoinSeq, JoinMax, Revise, LoopTest}
+use Rattle.vir_code.specs.declared.instr.Instr.TheVariants.{UntilTest, LoopBack, EndLoop}
 use Rattle.vir_code.specs.Code.{test_of, width, code_at, code_of}
 use Rattle.vir_code.proofs.Unique.{length-code_at}
 use Rattle.vir_compile.specs.Laws.{JumpsStayWithin}
@@ -37,11 +38,19 @@ all_below p end (seq m n) le =
     (tt, (tt, both end b (JoinSeq ∷ []) (all_below (p + width m + 2) end n (omega arith)) (tt, tt)))
 all_below p end (par m n) le =
     let b = code_at (p + width m) n in
-    both end (code_at p m) (b ++ JoinMax ∷ []) (all_below p end m (omega arith)) (both end b (JoinMax ∷ []) (all_below (p + width m) end n (omega arith)) (tt, tt))
-all_below p end (loop k m) le =
-    (tt, (below_test end (p + 2 + width m + 1) k (omega arith), both end (code_at (p + 2) m) (LoopBack (p + 1) ∷ (EndLoop ∷ [])) (all_below (p + 2) end m (omega arith)) (omega arith, (tt, tt))))
+    both end (code_at p m) (b ++ JoinMax ∷ []) (all_below p end m (omega arith))
+    (both end b (JoinMax ∷ []) (all_below (p + width m) end n (omega arith)) (tt, tt))
+all_below p end (loop k m) le = (
+  tt,
+  (
+    below_test end (p + 2 + width m + 1) k (omega arith),
+    both end (code_at (p + 2) m) (LoopBack (p + 1)
+        ∷ (EndLoop ∷ [])) (all_below (p + 2) end m (omega arith)) (omega arith, (tt, tt)),
+  ),
+)
 
-at_place : (end : ℕ) (code : List Instr) (i : ℕ) (x : Instr) → AllBelow end code → slice_get code i ≡ Some x → Below end x
+at_place : (end : ℕ) (code : List Instr) (i : ℕ) (x : Instr) → AllBelow end code → slice_get code i ≡ Some x
+    → Below end x
 at_place end [] i x h e = cc
 at_place end (j ∷ code) zero x h e = let same : j ≡ x = cc in subst (Below end) same h.0
 at_place end (j ∷ code) (suc i) x h e = at_place end code i x h.1 e

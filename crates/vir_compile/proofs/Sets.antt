@@ -1,5 +1,6 @@
 -- Sets, splits and profiles on parts of a set.
-use Rattle.std.proofs.Common.{◌≡◌, ℕ, ◌<◌, ◌≤◌, Bool, true, false, cond, List, [], ◌∷◌, nat_lt, refl, sym, ap, ◌∙◌, subst, arith}
+use Rattle.std.proofs.Common.{◌≡◌, ℕ, ◌<◌, ◌≤◌, Bool, true, false, cond, List, [], ◌∷◌, nat_lt, refl, sym, ap, ◌∙◌}
+use Rattle.std.proofs.Common.{subst, arith}
 use Rattle.std.proofs.lemmas.Bool.Decides.{nat_tests}
 use Rattle.std.specs.Cmp.{nat_cmp_total}
 use Rattle.std.specs.FinSet as set
@@ -47,26 +48,33 @@ part_less d a part lacks =
       | false ↦ λ e.
           let large : set.len a ≤ set.len d = grind (arith, nat_tests) in
           let same : d ≡ a = whole_part d a part large in
-          let has : set.is_subset a d ≡ true = set.contains-is_subset nat_cmp_total a d (λ x member. subst (λ s. set.contains s x ≡ true) (sym same) member) in
+          let has : set.is_subset a d ≡ true = set.contains-is_subset nat_cmp_total a d
+          (λ x member. subst (λ s. set.contains s x ≡ true) (sym same) member) in
           absurd cc
     ] refl
 
 -- what a set keeps of what a greater one keeps
-filter_filter : (d a : Set) → IsPart d a → (xs : List ℕ) → filter (set.contains d) (filter (set.contains a) xs) ≡ filter (set.contains d) xs
+filter_filter : (d a : Set) → IsPart d a → (xs : List ℕ) → filter (set.contains d) (filter (set.contains a) xs)
+    ≡ filter (set.contains d) xs
 filter_filter d a part [] = refl
 filter_filter d a part (x ∷ xs) = step (filter_filter d a part xs) (set.contains d x) (set.contains a x) (part x) refl
   where
-    step : filter (set.contains d) (filter (set.contains a) xs) ≡ filter (set.contains d) xs → (in_d in_a : Bool) → (in_d ≡ true → in_a ≡ true) → set.contains d x ≡ in_d
-        → filter (set.contains d) (cond in_a (x ∷ filter (set.contains a) xs) (filter (set.contains a) xs)) ≡ cond in_d (x ∷ filter (set.contains d) xs) (filter (set.contains d) xs)
+    step : filter (set.contains d) (filter (set.contains a) xs) ≡ filter (set.contains d) xs → (in_d in_a : Bool)
+        → (in_d ≡ true → in_a ≡ true) → set.contains d x ≡ in_d
+        → filter (set.contains d) (cond in_a (x ∷ filter (set.contains a) xs) (filter (set.contains a) xs))
+        ≡ cond in_d (x ∷ filter (set.contains d) xs) (filter (set.contains d) xs)
     step same_rest true true h e =
-        ap (λ b. cond b (x ∷ filter (set.contains d) (filter (set.contains a) xs)) (filter (set.contains d) (filter (set.contains a) xs))) e ∙ ap (λ l. x ∷ l) same_rest
+        ap (λ b. cond b (x ∷ filter (set.contains d) (filter (set.contains a) xs))
+        (filter (set.contains d) (filter (set.contains a) xs))) e ∙ ap (λ l. x ∷ l) same_rest
     step same_rest true false h e = absurd (let wrong : false ≡ true = h refl in cc)
     step same_rest false true h e =
-        ap (λ b. cond b (x ∷ filter (set.contains d) (filter (set.contains a) xs)) (filter (set.contains d) (filter (set.contains a) xs))) e ∙ same_rest
+        ap (λ b. cond b (x ∷ filter (set.contains d) (filter (set.contains a) xs))
+        (filter (set.contains d) (filter (set.contains a) xs))) e ∙ same_rest
     step same_rest false false h e = same_rest
 
 -- a profile restricted to a part of a set to which it was restricted
-pub restrict_restrict : (d a : Set) → IsPart d a → (lines : List Entry) → restrict d (restrict a lines) ≡ restrict d lines
+pub restrict_restrict : (d a : Set) → IsPart d a → (lines : List Entry) → restrict d (restrict a lines)
+    ≡ restrict d lines
 restrict_restrict d a part [] = refl
 restrict_restrict d a part (line ∷ lines) =
     ap (λ o. record line { order = o } ∷ restrict d (restrict a lines)) (filter_filter d a part line.order)

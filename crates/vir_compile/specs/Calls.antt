@@ -34,7 +34,8 @@ abbrev pub calls_of : Tree → Calls
 calls_of (leaf l) a lines = l ∷ []
 calls_of (rev part) a lines = calls_of part a lines
 calls_of (seq first second) a lines =
-    calls_of first a lines ++ calls_of second (mean first a lines).deferred (restrict (mean first a lines).deferred lines)
+    calls_of first a lines ++ calls_of second (mean first a lines).deferred (restrict (mean first a lines).deferred
+    lines)
 calls_of (par first second) a lines = calls_of first a lines ++ calls_of second a lines
 calls_of (loop k body) a lines = turns_calls (suc (set.len a)) k (mean body) (calls_of body) a lines
 

@@ -1,12 +1,14 @@
 -- What the machine does: the steps of code, and its run from the start to its end.
-use Rattle.std.specs.Prelude.{◌≡◌, ℕ, zero, suc, ◌+◌, nat_eq, nat_le, List, [], ◌∷◌, length, Option, Some, None, slice_get, if◌then◌else◌}
+use Rattle.std.specs.Prelude.{◌≡◌, ℕ, zero, suc, ◌+◌, nat_eq, nat_le, List, [], ◌∷◌, length, Option, Some, None}
+use Rattle.std.specs.Prelude.{slice_get, if◌then◌else◌}
 use Rattle.std.specs.FinSet as set
 use Rattle.vir_altset.specs.Sets.{Set}
 use Rattle.vir_altset.specs.declared.split.Split.{Split}
 use Rattle.vir_profile.specs.declared.ballot.Entry.{Entry}
 use Rattle.vir_profile.specs.Profiles.{restrict}
 use Rattle.vir_code.specs.declared.instr.Instr.{Instr}
-use Rattle.vir_code.specs.declared.instr.Instr.TheVariants.{Call, KeepDomain, FetchDomain, JoinSeq, JoinMax, Revise, StartLoop, LoopTest, UntilTest, LoopBack, EndLoop}
+use Rattle.vir_code.specs.declared.instr.Instr.TheVariants.{Call, KeepDomain, FetchDomain, JoinSeq, JoinMax, Revise}
+use Rattle.vir_code.specs.declared.instr.Instr.TheVariants.{StartLoop, LoopTest, UntilTest, LoopBack, EndLoop}
 use Rattle.vir_mean.specs.Modules.{leaf_mean}
 use Rattle.vir_mean.specs.Compositions.{joined, merged}
 
@@ -37,7 +39,8 @@ fetched s [] = None
 
 -- the two top splits become one, and these the domain and the domains
 abbrev pub combined : (Split → Split → Split) → ℕ → Set → List Set → List Split → Option State
-combined join place domain domains (second ∷ first ∷ rest) = Some (state (place + 1) domain (join first second ∷ rest) domains)
+combined join place domain domains (second ∷ first ∷ rest) = Some (state (place + 1) domain (join first second ∷ rest)
+    domains)
 combined join place domain domains (only ∷ []) = None
 combined join place domain domains [] = None
 
@@ -51,7 +54,8 @@ abbrev pub turned_round : State → List Split → Option State
 turned_round s (top ∷ rest) = Some (state (s.place + 1) s.domain (revised s.domain top ∷ rest) s.domains)
 turned_round s [] = None
 
--- the split of a turn is popped: the loop is over where it defers the whole domain, and else goes on with what it defers
+-- the split of a turn is popped: the loop is over where it defers the whole domain, and else goes on with what it
+-- defers
 abbrev pub turn_joined : ℕ → State → List Split → Option State
 turn_joined start s (turn ∷ so_far ∷ rest) =
     Some (if set.is_subset s.domain turn.deferred

@@ -27,7 +27,8 @@ CodeExecutesOnRestrictedBallots =
     (t : Tree) (a : Set) (lines : List Entry) (s : Split)
     → Exec (code_of t) a lines s ↔ (s ≡ mean t a (restrict a lines))
 
--- The state is at the end of the code, or a step leads on; neither stack is above the depth; the domain is a part of the first.
+-- The state is at the end of the code, or a step leads on; neither stack is above the depth; the domain is a part of
+-- the first.
 pub record IsSafe (code : List Instr) (a : Set) (lines : List Entry) (depth : ℕ) (b : State) : Type 0 where
   pub goes_on : (b.place ≡ length code) ⊎ ((c : State) × IsStep code lines b c)
   pub splits_fit : length b.splits ≤ depth
@@ -68,7 +69,8 @@ JumpsStayWithin = (t : Tree) → AreJumpsWithin (code_of t)
 -- No call is left at the end of the code; and before, there are those of the next instruction and those left after it.
 pub record CallsAreLeft (code : List Instr) (lines : List Entry) (b : State) : Type 0 where
   pub none : b.place ≡ length code → calls_left code lines b ≡ []
-  pub first : (c : State) (step : IsStep code lines b c) → calls_left code lines b ≡ called step.at ++ calls_left code lines c
+  pub first : (c : State) (step : IsStep code lines b c) → calls_left code lines b ≡ called step.at
+      ++ calls_left code lines c
 
 -- The calls left of a term's code are those to its end; from the start, these are the calls of the term's meaning.
 pub record CallsAreExact (t : Tree) (a : Set) (lines : List Entry) : Type 0 where

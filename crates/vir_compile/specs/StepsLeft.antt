@@ -28,7 +28,8 @@ at_instr left (Some i) = left i
 -- the number of steps from a state on, of which at most so many are counted
 abbrev pub steps_within : List Instr → List Entry → ℕ → State → ℕ
 steps_within code lines zero s = 0
-steps_within code lines (suc n) s = at_instr (λ i. one_more (steps_within code lines n) (act lines i s)) (slice_get code s.place)
+steps_within code lines (suc n) s = at_instr (λ i. one_more (steps_within code lines n) (act lines i s))
+    (slice_get code s.place)
 
 -- the number of steps from a state on that is reached from a start
 unfoldable pub steps_left : List Instr → List Entry → State → ℕ

@@ -93,7 +93,8 @@ fn emit_loop(
     ending: Ending,
     body: &Term,
 ) -> Result<(), AllocError>
-    ensures { OnOk result (code.new.items ≡ code.old.items ++ code_at (length code.old.items) (loop (end_of ending) (tree body.now))) }
+    ensures { OnOk result (code.new.items
+        ≡ code.old.items ++ code_at (length code.old.items) (loop (end_of ending) (tree body.now))) }
 {
     put(code, Instr::StartLoop)?;
     let test = code.len();

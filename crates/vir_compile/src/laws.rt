@@ -1,5 +1,6 @@
 // What is proved of the runs of code: each function's contract is a law.
-ghost use Rattle.vir_compile.specs.Laws.{CodeExecutesToTheMeaning, CodeExecutesOnRestrictedBallots, CodeIsSafe, StepsLeftAreExact, CallsLeftAreExact, JumpsStayWithin};
+ghost use Rattle.vir_compile.specs.Laws.{CodeExecutesToTheMeaning, CodeExecutesOnRestrictedBallots, CodeIsSafe};
+ghost use Rattle.vir_compile.specs.Laws.{StepsLeftAreExact, CallsLeftAreExact, JumpsStayWithin};
 
 /// The code of a term executes to a split just where this is the term's meaning.
 pub fn code_executes_to_the_meaning()

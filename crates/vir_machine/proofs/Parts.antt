@@ -5,6 +5,8 @@ use Rattle.std.specs.FinSet as set
 use Rattle.vir_altset.specs.Sets.{Set}
 use Rattle.vir_mean.proofs.EliminatedSplits.{whole_gone, some_left}
 
-pub is_subset-difference : (a x rest : Set) (none : Bool) → rest ≡ set.difference a x → IsTrue none ↔ (rest ≡ set.empty) → none ≡ set.is_subset a x
+pub is_subset-difference : (a x rest : Set) (none : Bool) → rest ≡ set.difference a x → IsTrue none ↔ (rest ≡ set.empty)
+    → none ≡ set.is_subset a x
 is_subset-difference a x rest true is tells = sym (whole_gone a x (sym is ∙ tells.0 refl))
-is_subset-difference a x rest false is tells = sym (some_left a x (λ e. let h : IsTrue false = tells.1 (is ∙ e) in absurd cc))
+is_subset-difference a x rest false is tells = sym (some_left a x (λ e. let h : IsTrue false = tells.1 (is ∙ e)
+    in absurd cc))

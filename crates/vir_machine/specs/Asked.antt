@@ -10,7 +10,8 @@ use Rattle.vir_machine.specs.Bench.{CounterView, kinds_of, raised, is_served, fi
 -- each call of a module is one more of the first counter that serves it
 abbrev pub asked : List Leaf → List CounterView → List CounterView
 asked [] counters = counters
-asked (l ∷ rest) counters = asked rest (raised (λ i. if nat_eq i (first_serving (kinds_of counters) (kind_of l)) then 1 else 0) counters)
+asked (l ∷ rest) counters = asked rest (raised (λ i. if nat_eq i (first_serving (kinds_of counters) (kind_of l)) then 1
+    else 0) counters)
 
 -- whether the module that an instruction calls, if it calls one, is served
 abbrev pub call_served : List (List LeafKind) → Instr → Bool

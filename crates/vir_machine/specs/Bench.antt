@@ -34,7 +34,8 @@ first_serving (kinds ∷ rest) kind = if has_kind kinds kind then 0 else suc (fi
 -- the calls of each counter have risen by f of its index, where the first of these has index n
 abbrev pub raised_from : ℕ → (ℕ → ℕ) → List CounterView → List CounterView
 raised_from n f [] = []
-raised_from n f (counter ∷ rest) = record { kinds = counter.kinds; calls = risen counter.calls (f n) } ∷ raised_from (suc n) f rest
+raised_from n f (counter ∷ rest) = record { kinds = counter.kinds; calls = risen counter.calls (f n) }
+    ∷ raised_from (suc n) f rest
 
 -- the calls of each counter have risen by f of its index
 abbrev pub raised : (ℕ → ℕ) → List CounterView → List CounterView

@@ -39,7 +39,8 @@ Count = Set → List Entry → ℕ
 abbrev pub turn_count : End → Meaning → Count → Count → Count
 turn_count k body uses next a lines =
     if is_end k (set.len a) then 0
-    else uses a lines + (if set.is_subset a (body a lines).deferred then 0 else next (body a lines).deferred (restrict (body a lines).deferred lines))
+    else uses a lines + (if set.is_subset a (body a lines).deferred then 0 else next (body a lines).deferred
+    (restrict (body a lines).deferred lines))
 
 -- a loop of at most so many turns
 unfoldable pub turns_count : ℕ → End → Meaning → Count → Count
@@ -56,6 +57,7 @@ abbrev pub uses : ℕ → List (List LeafKind) → Tree → Count
 uses i served (leaf l) a lines = if nat_eq i (first_serving served (kind_of l)) then 1 else 0
 uses i served (rev part) a lines = uses i served part a lines
 uses i served (seq first second) a lines =
-    uses i served first a lines + uses i served second (mean first a lines).deferred (restrict (mean first a lines).deferred lines)
+    uses i served first a lines + uses i served second (mean first a lines).deferred
+    (restrict (mean first a lines).deferred lines)
 uses i served (par first second) a lines = uses i served first a lines + uses i served second a lines
 uses i served (loop k body) a lines = loop_count k (mean body) (uses i served body) a lines

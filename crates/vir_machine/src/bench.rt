@@ -1,5 +1,6 @@
 // Benches of counters.
-ghost use Rattle.std.specs.Prelude.{◌≡◌, ◌≤◌, ◌↔◌, [], ◌∷◌, ◌++◌, length, true, nat_eq, if◌then◌else◌, slice_get, IsNone, IsTrue, OnOk, OnErr};
+ghost use Rattle.std.specs.Prelude.{◌≡◌, ◌≤◌, ◌↔◌, [], ◌∷◌, ◌++◌, length, true, nat_eq, if◌then◌else◌, slice_get};
+ghost use Rattle.std.specs.Prelude.{IsNone, IsTrue, OnOk, OnErr};
 ghost use Rattle.std.specs.Option.{option_copied};
 ghost use Rattle.vir_altset.specs.Sets.{all, IsPart};
 ghost use Rattle.vir_profile.specs.Profiles.{restrict};
@@ -39,8 +40,10 @@ impl Bench {
 
     /// Puts a counter behind the others. After want of memory the counter is dropped.
     pub fn push(&mut self, counter: Box<dyn Counter>) -> Result<(), AllocError>
-        ensures ok { OnOk result (views kinds made self.new.counters.items ≡ views kinds made self.old.counters.items ++ record { kinds = kinds counter; calls = made counter } ∷ []) }
-        ensures err { OnErr result (views kinds made self.new.counters.items ≡ views kinds made self.old.counters.items) }
+        ensures ok { OnOk result (views kinds made self.new.counters.items ≡ views kinds made self.old.counters.items
+            ++ record { kinds = kinds counter; calls = made counter } ∷ []) }
+        ensures err { OnErr result
+            (views kinds made self.new.counters.items ≡ views kinds made self.old.counters.items) }
         ensures runs { self.new.runs ≡ self.old.runs }
     {
         self.counters.push(counter)?;
@@ -87,8 +90,10 @@ impl Bench {
 
     /// The first module of the term, from left to right as it is written, that no counter serves.
     pub fn first_unserved<'a>(&self, term: &'a Term) -> Option<&'a Leaf>
-        ensures first { option_copied result ≡ first_unserved (kinds_of (views kinds made self.now.counters.items)) (tree term.now) }
-        ensures none { IsNone result ↔ IsTrue (all_served (kinds_of (views kinds made self.now.counters.items)) (tree term.now)) }
+        ensures first { option_copied result
+            ≡ first_unserved (kinds_of (views kinds made self.now.counters.items)) (tree term.now) }
+        ensures none { IsNone result
+            ↔ IsTrue (all_served (kinds_of (views kinds made self.now.counters.items)) (tree term.now)) }
     {
         match term {
             Term::Leaf(leaf) => { if self.serves(leaf) { None } else { Some(leaf) } }
@@ -123,7 +128,9 @@ impl Bench {
         requires served { is_served (kinds_of (views kinds made self.old.counters.items)) (kind_of leaf.now) ≡ true }
         requires part { IsPart domain.now (all election.now.profile.alternatives) }
         ensures meaning { result ≡ leaf_mean leaf.now domain.now (restrict domain.now election.now.profile.lines) }
-        ensures counted { let old = views kinds made self.old.counters.items in views kinds made self.new.counters.items ≡ raised (λ i. if nat_eq i (first_serving (kinds_of old) (kind_of leaf.now)) then 1 else 0) old }
+        ensures counted { let old = views kinds made self.old.counters.items in
+            let place = first_serving (kinds_of old) (kind_of leaf.now) in
+            views kinds made self.new.counters.items ≡ raised (λ i. if nat_eq i place then 1 else 0) old }
         ensures runs { self.new.runs ≡ self.old.runs }
     {
         let i = self.place(leaf);

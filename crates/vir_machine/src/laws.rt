@@ -11,5 +11,6 @@ ghost use Rattle.vir_machine.specs.Uses.{turn_count, uses};
 /// cuts it short.
 pub fn uses_of_a_loop_go_by_turns()
     ensures { (i : ℕ) (served : List (List LeafKind)) (k : End) (body : Tree) (a : Set) (lines : List Entry)
-        → uses i served (loop k body) a lines ≡ turn_count k (mean body) (uses i served body) (uses i served (loop k body)) a lines }
+        → uses i served (loop k body) a lines
+        ≡ turn_count k (mean body) (uses i served body) (uses i served (loop k body)) a lines }
 {}

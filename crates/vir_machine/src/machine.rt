@@ -68,12 +68,15 @@ impl Machine {
         domain: &AltSet,
     ) -> Split
         requires depth { (t : Tree) → code.now ≡ code_of t → depth_of t ≤ self.old }
-        requires served { (t : Tree) × (code.now ≡ code_of t) × (all_served (kinds_of (views kinds made bench.old.counters.items)) t ≡ true) }
+        requires served { (t : Tree) × (code.now ≡ code_of t)
+            × (all_served (kinds_of (views kinds made bench.old.counters.items)) t ≡ true) }
         requires part { IsPart domain.now (all election.now.profile.alternatives) }
-        ensures meaning { (t : Tree) → code.now ≡ code_of t → result ≡ mean t domain.now (restrict domain.now election.now.profile.lines) }
+        ensures meaning { (t : Tree) → code.now ≡ code_of t
+            → result ≡ mean t domain.now (restrict domain.now election.now.profile.lines) }
         ensures split { IsSplitOf domain.now result }
         ensures calls { let old = views kinds made bench.old.counters.items in (t : Tree) → code.now ≡ code_of t
-            → views kinds made bench.new.counters.items ≡ raised (λ i. uses i (kinds_of old) t domain.now (restrict domain.now election.now.profile.lines)) old }
+            → views kinds made bench.new.counters.items
+            ≡ raised (λ i. uses i (kinds_of old) t domain.now (restrict domain.now election.now.profile.lines)) old }
         ensures runs { bench.new.runs ≡ risen bench.old.runs 1 }
         ensures depth { self.new ≡ self.old }
     {
@@ -101,13 +104,17 @@ fn run_code(
     domains: &mut Stack<AltSet>,
 )
     requires empty { (splits.old.0 ≡ []) × (domains.old.0 ≡ []) }
-    requires served { (t : Tree) × (code.now ≡ code_of t) × (all_served (kinds_of (views kinds made bench.old.counters.items)) t ≡ true) }
+    requires served { (t : Tree) × (code.now ≡ code_of t)
+        × (all_served (kinds_of (views kinds made bench.old.counters.items)) t ≡ true) }
     requires room { (t : Tree) → code.now ≡ code_of t → (depth_of t ≤ splits.old.1) × (depth_of t ≤ domains.old.1) }
     requires part { IsPart here.old (all election.now.profile.alternatives) }
-    ensures splits { (t : Tree) → code.now ≡ code_of t → splits.new ≡ (mean t here.old (restrict here.old election.now.profile.lines) ∷ [], splits.old.1) }
+    ensures splits { (t : Tree) → code.now ≡ code_of t
+        → splits.new ≡ (mean t here.old (restrict here.old election.now.profile.lines) ∷ [], splits.old.1) }
     ensures domains { domains.new ≡ ([], domains.old.1) }
     ensures calls { (t : Tree) → code.now ≡ code_of t
-        → views kinds made bench.new.counters.items ≡ asked (calls_of t here.old (restrict here.old election.now.profile.lines)) (views kinds made bench.old.counters.items) }
+        → views kinds made bench.new.counters.items
+        ≡ asked (calls_of t here.old (restrict here.old election.now.profile.lines))
+        (views kinds made bench.old.counters.items) }
     ensures runs { bench.new.runs ≡ bench.old.runs }
 {
     prove!(code.len() <= CODE_LIMIT);
@@ -127,13 +134,16 @@ fn act(
     splits: &mut Stack<Split>,
     domains: &mut Stack<AltSet>,
 ) -> usize
-    requires leads { (next : State) × (act election.now.profile.lines instr.now (state place here.old splits.old.0 domains.old.0) ≡ Some next)
+    requires leads { (next : State)
+        × (act election.now.profile.lines instr.now (state place here.old splits.old.0 domains.old.0) ≡ Some next)
         × (length next.splits ≤ splits.old.1) × (length next.domains ≤ domains.old.1) }
     requires served { call_served (kinds_of (views kinds made bench.old.counters.items)) instr.now ≡ true }
     requires part { IsPart here.old (all election.now.profile.alternatives) }
     requires small { place + 1 < 2 ^ 64 }
-    ensures leads { act election.now.profile.lines instr.now (state place here.old splits.old.0 domains.old.0) ≡ Some (state result here.new splits.new.0 domains.new.0) }
-    ensures calls { views kinds made bench.new.counters.items ≡ asked (called instr.now) (views kinds made bench.old.counters.items) }
+    ensures leads { act election.now.profile.lines instr.now (state place here.old splits.old.0 domains.old.0)
+        ≡ Some (state result here.new splits.new.0 domains.new.0) }
+    ensures calls { views kinds made bench.new.counters.items ≡ asked (called instr.now)
+        (views kinds made bench.old.counters.items) }
     ensures splits_room { splits.new.1 ≡ splits.old.1 }
     ensures domains_room { domains.new.1 ≡ domains.old.1 }
     ensures runs { bench.new.runs ≡ bench.old.runs }

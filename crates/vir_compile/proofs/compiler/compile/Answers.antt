@@ -7,4 +7,5 @@ use Rattle.vir_compile.proofs.compiler.compile.Goals as goal
 pub unreachable-requires : goal.unreachable-requires
 unreachable-requires c =
     let t = tree c.args.term.now in
-    c.in-None.ensures (compiled_valid _ t c.requires (c.in_ok-emit.ensures ∙ ap (λ l. l ++ code_at (length l) t) c.new-list.ensures.items))
+    c.in-None.ensures (compiled_valid _ t c.requires (c.in_ok-emit.ensures ∙ ap (λ l. l ++ code_at (length l) t)
+    c.new-list.ensures.items))

@@ -6,4 +6,8 @@ pub returns : goal.returns
 returns c =
     let tells = c.equals.ensures in
     let empty = c.empty.ensures in
-    is_subset-difference c.args.part.now c.args.whole.now c.minus.result c.equals.result c.minus.ensures (λ h. tells.0 h ∙ empty, λ e. tells.1 (e ∙ sym empty))
+    is_subset-difference c.args.part.now c.args.whole.now c.minus.result c.equals.result c.minus.ensures (
+      λ h. tells.0 h
+          ∙ empty,
+      λ e. tells.1 (e ∙ sym empty),
+    )

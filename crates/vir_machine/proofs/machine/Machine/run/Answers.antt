@@ -19,4 +19,5 @@ pub returns-clause-calls : goal.returns-clause-calls
 returns-clause-calls g c = λ t is.
     let a = c.args.domain.now in
     let lines = restrict c.args.domain.now c.args.election.now.profile.lines in
-    c.run_code.ensures.calls t is ∙ ap (asked (calls_of t a lines)) c.count_run.ensures.counters ∙ asked-calls_of t a lines _
+    c.run_code.ensures.calls t is ∙ ap (asked (calls_of t a lines)) c.count_run.ensures.counters
+    ∙ asked-calls_of t a lines _
