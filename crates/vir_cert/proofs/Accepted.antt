@@ -1,19 +1,15 @@
 -- What is read is a certificate: within the limits, of rules that there are.
-use Rattle.std.proofs.Common.{◌≡◌, ℕ, zero, suc, ◌+◌, ◌≤◌, max, Bool, true, false, ◌&&◌, List, [], ◌∷◌, length, drop}
-use Rattle.std.proofs.Common.{Option, Some, None, Ok, Err, nat_le, nat_lt, if◌then◌else◌, refl, sym, ◌∙◌, ap, subst}
+use Rattle.std.proofs.Common.{◌≡◌, ℕ, zero, suc, ◌≤◌, Bool, true, false, List, [], ◌∷◌, length, drop}
+use Rattle.std.proofs.Common.{Option, Some, None, Ok, nat_le, nat_lt, if◌then◌else◌, refl, ap, subst}
 use Rattle.std.proofs.Common.{arith}
-use Rattle.std.specs.Prelude.{codes, ⊤}
+use Rattle.std.specs.Prelude.{codes}
 use Rattle.std.proofs.lemmas.Bool.Decides.{nat_tests}
 use Rattle.vir_term.specs.declared.prop.Prop.{Prop}
 use Rattle.vir_term.specs.Limits.{IsCount, IsWithinLimits}
 use Rattle.vir_term.specs.Tree.{Tree}
 use Rattle.vir_read.specs.declared.token.Token.{Token}
-use Rattle.vir_read.specs.declared.symbol.Symbol.{Symbol}
-use Rattle.vir_read.specs.declared.symbol.Symbol.TheVariants.{Word, Number, OpenParenthesis, CloseParenthesis}
-use Rattle.vir_read.specs.declared.symbol.Symbol.TheVariants.{OpenBracket, CloseBracket, Comma, Semicolon, Equals}
-use Rattle.vir_read.specs.declared.text_fault.TextFault.{TextFault}
-use Rattle.vir_read.specs.Faults.{OrFault, ◌>>=◌}
-use Rattle.vir_read.specs.Symbols.{symbol}
+use Rattle.vir_read.specs.declared.symbol.Symbol.TheVariants.{Word}
+use Rattle.vir_read.specs.Faults.{◌>>=◌}
 use Rattle.vir_read.specs.Tokens.{tokens_of}
 use Rattle.vir_read.specs.RawTrees.{RawTree, RawTrees, word, number, bracket, none as no_raws, more as more_raws}
 use Rattle.vir_read.specs.Grammar.{Read, symbol_of, unexpected, tree_of}

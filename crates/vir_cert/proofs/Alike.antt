@@ -1,7 +1,7 @@
 -- What the language without `until` accepts, the one with it accepts as the same term.
-use Rattle.std.proofs.Common.{◌≡◌, ℕ, suc, ◌+◌, ◌==◌, Bool, true, false, List, [], ◌∷◌, length, Option, Some, None, Ok}
-use Rattle.std.proofs.Common.{Err, nat_le, if◌then◌else◌, refl, sym, ◌∙◌, ap, subst}
-use Rattle.std.specs.Prelude.{⊤, codes}
+use Rattle.std.proofs.Common.{◌≡◌, ℕ, suc, ◌+◌, Bool, true, false, List, [], ◌∷◌, length, Option, Some, None, Ok}
+use Rattle.std.proofs.Common.{nat_le, if◌then◌else◌, refl, sym, ◌∙◌, ap, subst}
+use Rattle.std.specs.Prelude.{⊤}
 use Rattle.std.specs.Str.{bytes_eq}
 use Rattle.std.specs.Cmp.Lexicographic.{bytes_decides}
 use Rattle.vir_term.specs.declared.score.Score.{Score}
@@ -9,7 +9,6 @@ use Rattle.vir_term.specs.Limits.{nesting_limit}
 use Rattle.vir_term.specs.Tree.{Tree, leaf, rev, loop}
 use Rattle.vir_read.specs.declared.built_in.BuiltIn.{BuiltIn}
 use Rattle.vir_read.specs.declared.built_in.BuiltIn.TheVariants as word'
-use Rattle.vir_read.specs.declared.built_in.Plain.{Plain}
 use Rattle.vir_read.specs.declared.built_in.Ordered.{Ordered}
 use Rattle.vir_read.specs.declared.built_in.Eliminator.{Eliminator}
 use Rattle.vir_read.specs.declared.built_in.Pair.{Pair}
@@ -22,7 +21,7 @@ use Rattle.vir_read.specs.Arguments.{score_argument}
 use Rattle.vir_read.specs.Typing.{Argument, ordered_leaf, eliminator_leaf, pair_tree, end_of, composition_of}
 use Rattle.vir_read.specs.Typing.{built_in_term}
 use Rattle.vir_read.specs.Typing.{defined_term, word_term, term_at, arguments_of}
-use Rattle.vir_read.proofs.LimitLemmas.{bind_ok, ok_ok, guard_else, guard_then}
+use Rattle.vir_read.proofs.LimitLemmas.{bind_ok, guard_else, guard_then}
 use Rattle.vir_cert.specs.Untils.{until_word, until_at}
 use Rattle.vir_cert.specs.FirstReader.{first_typed, first_arguments_of}
 use Rattle.vir_cert.proofs.UntilFree.{IsFree, AllFree, free_at}

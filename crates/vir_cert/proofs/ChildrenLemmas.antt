@@ -7,7 +7,6 @@ use Rattle.vir_read.specs.declared.text_fault.TextError.TheVariants.{Fault, Memo
 use Rattle.vir_read.specs.Faults.{OrFault, Fails, ◌>>=◌}
 use Rattle.vir_read.specs.Grammar.{Read, unexpected}
 use Rattle.vir_rules.specs.RuleTrees.{RuleTree}
-use Rattle.vir_cert.specs.declared.derivation_reader.Separator.{Separator}
 use Rattle.vir_cert.specs.declared.derivation_reader.Separator.TheVariants as separator
 use Rattle.vir_cert.specs.Derivations.{Reads, children, goes_on, separator_of}
 

@@ -1,6 +1,6 @@
 -- What the reader of one version accepted is read as the same certificate.
 use Rattle.std.proofs.Common.{◌≡◌, ℕ, Bool, true, false, ◌&&◌, not, List, [], ◌∷◌, length, Option, Some, None, Ok, Err}
-use Rattle.std.proofs.Common.{nat_lt, if◌then◌else◌, refl, sym, ◌∙◌, ap, subst}
+use Rattle.std.proofs.Common.{nat_lt, if◌then◌else◌, refl, sym, ◌∙◌, ap}
 use Rattle.std.specs.Prelude.{codes, ⊤}
 use Rattle.vir_term.specs.declared.prop.Prop.{Prop}
 use Rattle.vir_term.specs.Tree.{Tree}
@@ -12,17 +12,16 @@ use Rattle.vir_read.specs.Tokens.{tokens_of}
 use Rattle.vir_read.specs.RawTrees.{RawTree, word, number, bracket}
 use Rattle.vir_read.specs.Grammar.{Read, tree_of}
 use Rattle.vir_read.specs.Arguments.{span}
-use Rattle.vir_read.specs.Typing.{first_place, check_size, term_at, term_of}
-use Rattle.vir_read.proofs.LimitLemmas.{bind_ok, ok_ok, guard_then}
+use Rattle.vir_read.specs.Typing.{first_place, check_size}
+use Rattle.vir_read.proofs.LimitLemmas.{bind_ok}
 use Rattle.vir_rules.specs.declared.prop_name.PropName.{PropName}
 use Rattle.vir_rules.specs.Named.{prop_named}
-use Rattle.vir_rules.specs.RuleTrees.{RuleTree}
 use Rattle.vir_cert.specs.declared.version.Version.{Version}
 use Rattle.vir_cert.specs.declared.version.Version.TheVariants.{One, Two}
-use Rattle.vir_cert.specs.Versions.{is_new_name, known_prop, known_words, unknown_at, last_rule}
+use Rattle.vir_cert.specs.Versions.{is_new_name, known_prop}
 use Rattle.vir_cert.specs.Properties.{prop_of, prop_then}
 use Rattle.vir_cert.specs.Certs.{Cert, is_written, header_of, label_of, no_names, term_part, prop_part, derivation_part}
-use Rattle.vir_cert.specs.Certs.{end_of, parts_of, cert_of}
+use Rattle.vir_cert.specs.Certs.{parts_of, cert_of}
 use Rattle.vir_cert.specs.FirstReader.{first_typed, first_header_of, first_term_part, without_new, first_prop_of}
 use Rattle.vir_cert.specs.FirstReader.{first_prop_part, first_derivation_part, first_parts_of, first_cert_of}
 use Rattle.vir_cert.proofs.Alike.{accepted_alike}

@@ -1,6 +1,6 @@
 -- Parts of trees in a list: the one at a place.
-use Rattle.std.proofs.Common.{◌≡◌, ℕ, zero, suc, ◌+◌, ◌≤◌, List, [], ◌∷◌, Option, Some, None, drop, slice_get, refl, ap}
-use Rattle.std.proofs.Common.{arith, Bool, true, false, ◌&&◌, sym, ◌∙◌}
+use Rattle.std.proofs.Common.{◌≡◌, ℕ, zero, suc, ◌+◌, ◌≤◌, List, [], ◌∷◌, Some, drop, slice_get, ap}
+use Rattle.std.proofs.Common.{arith, ◌&&◌, sym}
 use Rattle.vir_read.specs.RawTrees.{RawTree, RawTrees, word, number, bracket, none, more, gathered}
 use Rattle.vir_rules.specs.RuleTrees.{RuleTree, size, size_of_all}
 use Rattle.vir_rules.specs.RuleTrees as rule

@@ -1,5 +1,5 @@
 -- A printed certificate is read as itself.
-use Rattle.std.proofs.Common.{◌≡◌, ℕ, ◌+◌, ◌≤◌, ◌<◌, ◌&&◌, Bool, true, false, List, [], ◌∷◌, ◌++◌, length, Ok, Err}
+use Rattle.std.proofs.Common.{◌≡◌, ℕ, ◌+◌, ◌≤◌, ◌&&◌, Bool, true, false, List, [], ◌∷◌, ◌++◌, length, Ok, Err}
 use Rattle.std.proofs.Common.{decimal, nat_lt, nat_le, not, refl, sym, ◌∙◌, ap, subst, arith, append_assoc, append-nil}
 use Rattle.std.proofs.Common.{length-append, if◌then◌else◌}
 use Rattle.std.specs.Prelude.{codes, ⊤}
@@ -14,7 +14,7 @@ use Rattle.vir_term.specs.Limits.{IsWithinLimits}
 use Rattle.vir_read.specs.declared.token.Token.{Token}
 use Rattle.vir_read.specs.declared.symbol.Symbol.TheVariants.{Word, OpenParenthesis}
 use Rattle.vir_read.specs.declared.text_fault.TextKind.TheVariants.{TextTooLong}
-use Rattle.vir_read.specs.Faults.{OrFault, ◌>>=◌, fault}
+use Rattle.vir_read.specs.Faults.{◌>>=◌, fault}
 use Rattle.vir_read.specs.Tokens.{is_blank, is_word_byte, run, tokens_from, tokens_of}
 use Rattle.vir_read.specs.Arguments.{span}
 use Rattle.vir_read.specs.Typing.{first_place}
@@ -35,7 +35,7 @@ use Rattle.vir_cert.specs.declared.version.Version.TheVariants.{One, Two}
 use Rattle.vir_cert.specs.Versions.{is_new_prop, known_words, last_rule, unknown_at, version_text}
 use Rattle.vir_cert.specs.Derivations.{derivation_of}
 use Rattle.vir_cert.specs.Certs.{Cert, is_written, header_of, label_of, no_names, term_part, prop_part, derivation_part}
-use Rattle.vir_cert.specs.Certs.{end_of, parts_of, cert_of}
+use Rattle.vir_cert.specs.Certs.{parts_of, cert_of}
 use Rattle.vir_cert.specs.Texts.{IsCert, have_rules_up_to, has_rules_up_to, cert_text, has_until, version_of}
 use Rattle.vir_cert.proofs.RoundTripDerivations.{derivation_pieces, text-derivation, apart-derivation}
 use Rattle.vir_cert.proofs.RoundTripDerivations.{readable-derivation}

@@ -1,22 +1,20 @@
 -- A printed derivation is read as itself.
-use Rattle.std.proofs.Common.{◌≡◌, ℕ, zero, suc, ◌+◌, ◌<◌, ◌≤◌, max, Bool, true, false, ◌&&◌, List, [], ◌∷◌, ◌++◌, map}
-use Rattle.std.proofs.Common.{length, slice_index_or, drop, Option, Some, None, Ok, nat_le, refl, sym, ◌∙◌, ap, arith}
-use Rattle.std.proofs.Common.{append_assoc, length-append, add-one}
-use Rattle.std.specs.Prelude.{codes}
+use Rattle.std.proofs.Common.{◌≡◌, ℕ, zero, suc, ◌<◌, ◌≤◌, true, false, List, [], ◌∷◌, ◌++◌, map}
+use Rattle.std.proofs.Common.{length, slice_index_or, Some, Ok, nat_le, refl, sym, ◌∙◌, ap, arith}
+use Rattle.std.proofs.Common.{append_assoc, length-append}
 use Rattle.std.specs.List.{list_all}
 use Rattle.std.proofs.lemmas.Bool.Decides.{nat_tests}
 use Rattle.vir_read.specs.declared.token.Token.{Token}
 use Rattle.vir_read.specs.declared.symbol.Symbol.{Symbol}
 use Rattle.vir_read.specs.declared.symbol.Symbol.TheVariants.{Word, Number, OpenParenthesis, CloseParenthesis}
 use Rattle.vir_read.specs.declared.symbol.Symbol.TheVariants.{OpenBracket, CloseBracket, Comma, Semicolon, Equals}
-use Rattle.vir_read.specs.Faults.{◌>>=◌}
 use Rattle.vir_read.specs.Symbols.{symbol, byte_symbol}
 use Rattle.vir_read.specs.Arguments.{span}
 use Rattle.vir_read.specs.Pieces.{Piece, name, sign, Says, SayAll, OpensNothing}
 use Rattle.vir_read.specs.Printed.{is_name}
 use Rattle.vir_read.proofs.RoundTripTrees.{said_first, said_last, said_twice, symbol-word, symbol-sign}
 use Rattle.vir_read.proofs.RoundTripTrees.{opens_nothing-sign}
-use Rattle.vir_read.proofs.RoundTripTokens.{IsName, is_name-parts, BeginsApart, AreApart, are_apart-append, piece_text}
+use Rattle.vir_read.proofs.RoundTripTokens.{IsName, is_name-parts, BeginsApart, AreApart, are_apart-append}
 use Rattle.vir_read.proofs.RoundTripTokens.{pieces_text, pieces_text-append, both}
 use Rattle.vir_rules.specs.declared.rule_id.TheConstants.RuleId.{COUNT}
 use Rattle.vir_rules.specs.Table.{Rule, table}
@@ -27,7 +25,7 @@ use Rattle.vir_rules.specs.RuleTrees.{nesting, nesting_of_all}
 use Rattle.vir_rules.specs.Texts.{derivation_text, children_text, more_children_text}
 use Rattle.vir_rules.proofs.Rows.{table_is_long}
 use Rattle.vir_rules.proofs.ByName.{named_is}
-use Rattle.vir_cert.specs.Derivations.{PlacedRule, Reads, up_to, name_of, children, opens, is_open, behind_rule}
+use Rattle.vir_cert.specs.Derivations.{Reads, up_to, name_of, children, opens, is_open}
 use Rattle.vir_cert.specs.Derivations.{derivation_within}
 
 -- ---- names of rules

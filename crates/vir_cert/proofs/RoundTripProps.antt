@@ -1,5 +1,5 @@
 -- A printed property is read as itself.
-use Rattle.std.proofs.Common.{◌≡◌, true, false, ℕ, ◌+◌, ◌≤◌, List, [], ◌∷◌, ◌++◌, Option, Some, Ok, refl, sym, ◌∙◌, ap}
+use Rattle.std.proofs.Common.{◌≡◌, true, false, ℕ, ◌+◌, ◌≤◌, List, [], ◌∷◌, ◌++◌, Option, Some, Ok, refl, ◌∙◌, ap}
 use Rattle.std.proofs.Common.{arith}
 use Rattle.std.specs.Prelude.{codes, ⊤}
 use Rattle.vir_term.specs.declared.prop.Prop.{Prop}
@@ -10,7 +10,7 @@ use Rattle.vir_read.specs.declared.token.Token.{Token}
 use Rattle.vir_read.specs.Faults.{◌>>=◌}
 use Rattle.vir_read.specs.RawTrees.{RawTree, RawTrees, none, more}
 use Rattle.vir_read.specs.Grammar.{tree_of, unclosed_limit}
-use Rattle.vir_read.specs.Spelling.{IsWord, IsNumber, IsOf}
+use Rattle.vir_read.specs.Spelling.{IsWord, IsNumber}
 use Rattle.vir_read.specs.Pieces.{Piece, name, digits, SayAll, OpensNothing, pieces_of}
 use Rattle.vir_read.proofs.RoundTripTrees.{readable-word, readable-number, readable-of}
 use Rattle.vir_read.proofs.RoundTripTokens.{AreApart, pieces_text, apart-of, apart-number}

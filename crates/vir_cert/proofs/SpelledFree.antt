@@ -1,6 +1,6 @@
 -- A tree that spells a term without an `until` has that word nowhere.
 use Rattle.std.proofs.Common.{◌≡◌, ℕ, Bool, true, false, ◌||◌, List, [], ◌∷◌, refl, sym, ◌∙◌, ap, subst}
-use Rattle.std.specs.Prelude.{⊤, codes}
+use Rattle.std.specs.Prelude.{codes}
 use Rattle.std.specs.Str.{bytes_eq}
 use Rattle.vir_term.specs.declared.leaf.Leaf.{Leaf}
 use Rattle.vir_term.specs.declared.leaf.Leaf.TheVariants.{Elect, Defer, PassFirst, DropFirst, Plurality, Max, Min}
@@ -10,7 +10,6 @@ use Rattle.vir_term.specs.declared.score.Score.TheVariants as score
 use Rattle.vir_term.specs.Text.{score_text}
 use Rattle.vir_term.specs.Tree.{Tree, leaf, rev, seq, par, loop, exactly, at_most}
 use Rattle.vir_read.specs.RawTrees.{RawTree, RawTrees, word, number, bracket, none, more}
-use Rattle.vir_read.specs.Arguments.{span}
 use Rattle.vir_read.specs.Spelling.{IsWord, IsNumber, AreNumbers, IsBracket, IsOf, IsOfTwo, SpellsOrdered}
 use Rattle.vir_read.specs.Spelling.{SpellsEliminator, SpellsLeaf, Spells}
 use Rattle.vir_cert.specs.Untils.{until_word}

@@ -1,6 +1,6 @@
 -- A valid derivation is nested at most three levels deep for each level of its term.
 use Rattle.std.proofs.Common.{◌≡◌, ℕ, zero, suc, ◌+◌, ◌-◌, ◌*◌, ◌<◌, ◌≤◌, Bool, true, false, ◌&&◌, ◌||◌, nat_eq, nat_lt}
-use Rattle.std.proofs.Common.{List, [], ◌∷◌, map, length, slice_index_or, Option, Some, None, option_map, if◌then◌else◌}
+use Rattle.std.proofs.Common.{List, [], ◌∷◌, map, slice_index_or, Option, Some, None, option_map, if◌then◌else◌}
 use Rattle.std.proofs.Common.{refl, sym, ◌∙◌, ap, subst, arith}
 use Rattle.std.specs.Prelude.{⊤}
 use Rattle.std.specs.List.{list_all}
@@ -31,7 +31,7 @@ use Rattle.vir_rules.specs.Forms.{form_of, first_part, second_part, is_shaped}
 use Rattle.vir_rules.specs.Forms as form'
 use Rattle.vir_rules.specs.Premises.{Letters, number_in, letters_of, letters_of_pair, paired, letters_in, prop_for}
 use Rattle.vir_rules.specs.Premises.{part_of, filled}
-use Rattle.vir_rules.specs.Premises.{blank, row_of, premises, premises_by, is_rule, if_same_order}
+use Rattle.vir_rules.specs.Premises.{blank, row_of, premises, premises_by, is_rule}
 use Rattle.vir_rules.specs.Props.{is_same, rank, number_of}
 use Rattle.vir_rules.specs.RuleTrees.{RuleTree, RuleTrees, node, none, more, nesting_of_all}
 use Rattle.vir_rules.specs.RuleTrees as rules

@@ -1,9 +1,9 @@
-use Rattle.std.proofs.Common.{◌≡◌, ◌+◌, ◌-◌, ◌<◌, ◌≤◌, length, drop, Ok, ap, sym, ◌∙◌, subst, arith}
+use Rattle.std.proofs.Common.{◌+◌, ◌-◌, ◌<◌, length, drop, Ok, ap, sym, ◌∙◌, subst, arith}
 use Rattle.vir_read.proofs.TypingLemmas.{fails_fault}
-use Rattle.vir_read.specs.Faults.{Fails, Gives, ◌>>=◌}
+use Rattle.vir_read.specs.Faults.{Gives, ◌>>=◌}
 use Rattle.vir_rules.specs.RuleTrees.{node, gathered, rule_tree, rule_trees}
 use Rattle.vir_rules.proofs.TreeLaws.{tree_made}
-use Rattle.vir_cert.specs.Derivations.{behind_rule, children, derivation_within}
+use Rattle.vir_cert.specs.Derivations.{children, derivation_within}
 use Rattle.vir_cert.specs.Seen.{rule_seen}
 use Rattle.vir_cert.proofs.ChildrenLemmas.{with_front, fails-bind, fails-same, continues}
 use Rattle.vir_cert.proofs.WithinLemmas.{behind-opened, within-fails, within-no_room, within-room}
