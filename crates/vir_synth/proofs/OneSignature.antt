@@ -17,19 +17,43 @@ module _ (numbers : ℕ → Bool) (one : numbers 1 ≡ true) (two : numbers 2 �
   composes = record {
     itself = λ t. record { alike = λ q w. ((λ d. d), (λ d. d)); head_same = refl };
     revised = λ t u s. record {
-      alike = alike numbers one two (rev t) (rev u) (record { form_same = refl; first_alike = λ _. s.alike; second_alike = λ _. s.alike; opposed_same = λ _. opposed_same (head t) (head u) (head t) (head u) s.head_same s.head_same });
+      alike = alike numbers one two (rev t) (rev u)
+          (record {
+            form_same = refl;
+            first_alike = λ _. s.alike;
+            second_alike = λ _. s.alike;
+            opposed_same = λ _. opposed_same (head t) (head u) (head t) (head u) s.head_same s.head_same;
+          });
       head_same = s.head_same;
     };
     looped = λ t u s. record {
-      alike = alike numbers one two (loop (exactly 1) t) (loop (exactly 1) u) (record { form_same = refl; first_alike = λ _. s.alike; second_alike = λ _. s.alike; opposed_same = λ _. opposed_same (head t) (head u) (head t) (head u) s.head_same s.head_same });
+      alike = alike numbers one two (loop (exactly 1) t) (loop (exactly 1) u)
+          (record {
+            form_same = refl;
+            first_alike = λ _. s.alike;
+            second_alike = λ _. s.alike;
+            opposed_same = λ _. opposed_same (head t) (head u) (head t) (head u) s.head_same s.head_same;
+          });
       head_same = refl;
     };
     sequenced = λ t t' u u' s r. record {
-      alike = alike numbers one two (seq t u) (seq t' u') (record { form_same = refl; first_alike = λ _. s.alike; second_alike = λ _. r.alike; opposed_same = λ _. opposed_same (head t) (head t') (head u) (head u') s.head_same r.head_same });
+      alike = alike numbers one two (seq t u) (seq t' u')
+          (record {
+            form_same = refl;
+            first_alike = λ _. s.alike;
+            second_alike = λ _. r.alike;
+            opposed_same = λ _. opposed_same (head t) (head t') (head u) (head u') s.head_same r.head_same;
+          });
       head_same = s.head_same;
     };
     paralleled = λ t t' u u' s r. record {
-      alike = alike numbers one two (par t u) (par t' u') (record { form_same = refl; first_alike = λ _. s.alike; second_alike = λ _. r.alike; opposed_same = λ _. opposed_same (head t) (head t') (head u) (head u') s.head_same r.head_same });
+      alike = alike numbers one two (par t u) (par t' u')
+          (record {
+            form_same = refl;
+            first_alike = λ _. s.alike;
+            second_alike = λ _. r.alike;
+            opposed_same = λ _. opposed_same (head t) (head t') (head u) (head u') s.head_same r.head_same;
+          });
       head_same = refl;
     };
   }

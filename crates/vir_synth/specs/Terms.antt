@@ -8,7 +8,8 @@ abbrev pub joins : (Tree → Tree → Tree) → List Tree → List Tree → List
 joins op [] seconds = []
 joins op (first ∷ firsts) seconds = map (op first) seconds ++ joins op firsts seconds
 
--- The compositions of a first and a second term, by the size of the first one, which begins with `left`, where that of the second
+-- The compositions of a first and a second term, by the size of the first one, which begins with `left`, where that of
+-- the second
 -- one is `right` then. `at` has the terms of each size.
 unfoldable pub splits : (Tree → Tree → Tree) → (ℕ → List Tree) → ℕ → ℕ → List Tree
 splits op at left zero = []
@@ -16,7 +17,8 @@ splits op at left (suc right) = joins op (at left) (at (suc right)) ++ splits op
 
 -- the compositions that have one module or composition more than n: revisions, loops, sequences, parallel compositions
 abbrev pub compositions : (ℕ → List Tree) → ℕ → List Tree
-compositions at n = map rev (at n) ++ map (loop (exactly 1)) (at n) ++ splits seq at 1 (n - 1) ++ splits par at 1 (n - 1)
+compositions at n = map rev (at n) ++ map (loop (exactly 1)) (at n) ++ splits seq at 1 (n - 1)
+    ++ splits par at 1 (n - 1)
 
 -- the terms of one size more than n, where `at` has those of the sizes up to n
 abbrev pub next_terms : List Leaf → (ℕ → List Tree) → ℕ → List Tree
@@ -26,7 +28,8 @@ next_terms leaves at (suc n) = compositions at (suc n)
 -- the terms of each size up to n
 unfoldable pub terms_within : List Leaf → ℕ → ℕ → List Tree
 terms_within leaves zero size = []
-terms_within leaves (suc n) size = if nat_eq size (suc n) then next_terms leaves (terms_within leaves n) n else terms_within leaves n size
+terms_within leaves (suc n) size = if nat_eq size (suc n) then next_terms leaves (terms_within leaves n) n
+    else terms_within leaves n size
 
 -- the terms of a size
 unfoldable pub terms : List Leaf → ℕ → List Tree

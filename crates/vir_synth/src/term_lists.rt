@@ -34,7 +34,8 @@ fn push_with(
     first: &Term,
     seconds: &[Term],
 ) -> Result<(), AllocError>
-    ensures { IfOk result (λ _. trees list.new.items ≡ trees list.old.items ++ map (of_two form (tree first.now)) (trees seconds.now)) }
+    ensures { IfOk result (λ _.
+        trees list.new.items ≡ trees list.old.items ++ map (of_two form (tree first.now)) (trees seconds.now)) }
 {
     for second in seconds {
         let term = form.term(alloc, first, second)?;
@@ -51,7 +52,8 @@ fn push_joins(
     firsts: &[Term],
     seconds: &[Term],
 ) -> Result<(), AllocError>
-    ensures { IfOk result (λ _. trees list.new.items ≡ trees list.old.items ++ joins (of_two form) (trees firsts.now) (trees seconds.now)) }
+    ensures { IfOk result (λ _.
+        trees list.new.items ≡ trees list.old.items ++ joins (of_two form) (trees firsts.now) (trees seconds.now)) }
 {
     for first in firsts {
         push_with(list, alloc, form, first, seconds)?;
@@ -67,7 +69,8 @@ fn push_splits(
     sizes: &[Vec<Term>],
 ) -> Result<(), AllocError>
     requires { 1 ≤ length sizes.now }
-    ensures { IfOk result (λ _. trees list.new.items ≡ trees list.old.items ++ splits (of_two form) (terms_at sizes.now) 1 (length sizes.now - 1)) }
+    ensures { IfOk result (λ _. trees list.new.items
+        ≡ trees list.old.items ++ splits (of_two form) (terms_at sizes.now) 1 (length sizes.now - 1)) }
 {
     let count = sizes.len();
     for left in 1..count {
@@ -89,7 +92,8 @@ fn push_compositions(
     sizes: &[Vec<Term>],
 ) -> Result<(), AllocError>
     requires { 1 ≤ length sizes.now }
-    ensures { IfOk result (λ _. trees list.new.items ≡ trees list.old.items ++ compositions (terms_at sizes.now) (length sizes.now)) }
+    ensures { IfOk result (λ _.
+        trees list.new.items ≡ trees list.old.items ++ compositions (terms_at sizes.now) (length sizes.now)) }
 {
     let last = &sizes[sizes.len() - 1];
     push_each(list, alloc, Single::Rev, last)?;
