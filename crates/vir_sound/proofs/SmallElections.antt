@@ -14,7 +14,7 @@ use Rattle.vir_profile.specs.declared.ballot.Entry.{Entry}
 use Rattle.vir_profile.specs.Orders.{IsListing}
 use Rattle.vir_mean.specs.declared.elimination.Elimination.{Elimination}
 use Rattle.vir_mean.specs.declared.elimination.Elimination.TheVariants.{Max, Min, Below, Upto}
-use Rattle.vir_mean.specs.Elections.{IsElection}
+use Rattle.vir_profile.specs.Elections.{IsElection}
 use Rattle.vir_mean.specs.Eliminators.{goes, sum}
 use Rattle.vir_mean.specs.Listings.{listed}
 use Rattle.vir_mean.proofs.MemberCounts.{often, Lists, listing_of}
