@@ -31,8 +31,8 @@ exchanged x = 3 - x
 renaming : IsRenaming exchanged one_two
 renaming = record {
   positive = λ x member. step x (sym (contains-one_two x) ∙ member);
-  one_to_one = λ x y with_x with_y same. both x y (sym (contains-one_two x) ∙ with_x) (sym (contains-one_two y)
-      ∙ with_y) same;
+  one_to_one = λ x y with_x with_y same.
+      both x y (sym (contains-one_two x) ∙ with_x) (sym (contains-one_two y) ∙ with_y) same;
 }
   where
     step : (x : ℕ) → (nat_eq x 2 || nat_eq x 1) ≡ true → 1 ≤ 3 - x
@@ -54,14 +54,15 @@ same_set = same_members _ _ (λ z. iff _ _ (back z) (there z))
     twice z member = grind (arith, nat_tests)
 
     back : (z : ℕ) → set.contains (renamed_set exchanged one_two) z ≡ true → set.contains one_two z ≡ true
-    back z h = let n = named exchanged one_two z h in contains-one_two z ∙ turned n.one z (sym (contains-one_two n.one)
-        ∙ n.member) n.name
+    back z h =
+        let n = named exchanged one_two z h in
+        contains-one_two z ∙ turned n.one z (sym (contains-one_two n.one) ∙ n.member) n.name
 
     there : (z : ℕ) → set.contains one_two z ≡ true → set.contains (renamed_set exchanged one_two) z ≡ true
     there z h =
         let member = sym (contains-one_two z) ∙ h in
-        ap (set.contains (renamed_set exchanged one_two)) (sym (twice z member)) ∙ contains-name exchanged one_two
-        (3 - z) (contains-one_two (3 - z) ∙ turned z (3 - z) member refl)
+        ap (set.contains (renamed_set exchanged one_two)) (sym (twice z member))
+        ∙ contains-name exchanged one_two (3 - z) (contains-one_two (3 - z) ∙ turned z (3 - z) member refl)
 
 -- ---- who is passed
 passed : Set

@@ -30,8 +30,7 @@ first_passed k order a lines =
     record {
       elected = set.empty;
       rejected = set.difference a (first_members k order a);
-      deferred =
-          first_members k order a;
+      deferred = first_members k order a;
     }
 
 -- the first k in a fixed order are rejected, and the others deferred
@@ -40,8 +39,7 @@ first_dropped k order a lines =
     record {
       elected = set.empty;
       rejected = first_members k order a;
-      deferred =
-          set.difference a (first_members k order a);
+      deferred = set.difference a (first_members k order a);
     }
 
 -- the members that most voters put first: no member is put first by more
@@ -54,8 +52,7 @@ winners_elected a lines =
     record {
       elected = plurality_winners a lines;
       rejected = set.difference a (plurality_winners a lines);
-      deferred =
-          set.empty;
+      deferred = set.empty;
     }
 
 -- the meaning of a module

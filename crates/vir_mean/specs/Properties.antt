@@ -64,20 +64,14 @@ Holds Nb m = OnEach m (λ a s. a ≢ set.empty → s.rejected ≢ a)
 Holds Decr m = OnEach m (λ a s. 2 ≤ set.len a → s.rejected ≢ set.empty)
 Holds Dli m = OnLifts m (λ x s t. set.contains s.deferred x ≡ true → t ≡ s)
 Holds Imono m = OnLifts m (λ x s t. set.contains s.elected x ≡ true → StaysOrBecomes x s.elected t.elected)
-Holds Dimono m = ElectsNobody m × OnLifts m (λ x s t. set.contains s.deferred x ≡ true → StaysOrBecomes x s.deferred
-    t.deferred)
+Holds Dimono m =
+    ElectsNobody m × OnLifts m (λ x s t. set.contains s.deferred x ≡ true → StaysOrBecomes x s.deferred t.deferred)
 Holds Dmono m = OnLifts m (λ x s t. set.contains s.deferred x ≡ true → set.contains t.deferred x ≡ true)
 Holds Mono m = OnLifts m (λ x s t. set.contains s.elected x ≡ true → set.contains t.elected x ≡ true)
-Holds Cc m = OnWinners m (λ w a s. s ≡ record {
-  elected = just w;
-  rejected = set.difference a (just w);
-  deferred = set.empty;
-})
-Holds Dcc m = OnWinners m (λ w a s. s ≡ record {
-  elected = set.empty;
-  rejected = set.difference a (just w);
-  deferred = just w;
-})
+Holds Cc m =
+    OnWinners m (λ w a s. s ≡ record { elected = just w; rejected = set.difference a (just w); deferred = set.empty })
+Holds Dcc m =
+    OnWinners m (λ w a s. s ≡ record { elected = set.empty; rejected = set.difference a (just w); deferred = just w })
 Holds Cprog m = OnWinners m MakesProgress
 Holds Ccomp m = OnWinners m IsCompatible
 Holds Neut m = IsNeutral m

@@ -28,8 +28,8 @@ borda_score a lines x = pos (total (pairwise_weight lines x) (others x a))
 
 -- how many members x beats, less how many beat x
 abbrev pub copeland_score : Set → List Entry → ℕ → ℤ
-copeland_score a lines x = pos (set.len (set.retain a (λ y. beats lines x y))) -ℤ pos
-    (set.len (set.retain a (λ y. beats lines y x)))
+copeland_score a lines x =
+    pos (set.len (set.retain a (λ y. beats lines x y))) -ℤ pos (set.len (set.retain a (λ y. beats lines y x)))
 
 -- how many voters put x before another member, where these are fewest
 abbrev pub minimax_score : Set → List Entry → ℕ → ℤ

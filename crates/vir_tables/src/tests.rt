@@ -118,23 +118,6 @@ fn order_led_by(alloc: Global, m: u16, first: u16) -> Result<Vec<u16>, AllocErro
     Ok(order)
 }
 
-#[test]
-fn pairs_of_many_alternatives(rt: HostRuntime) -> Result<(), AllocError> {
-    let first = order_led_by(rt.alloc(), 400, 400)?;
-    let second = order_led_by(rt.alloc(), 400, 200)?;
-    let lines = [(5, first.as_slice()), (2, second.as_slice())];
-    let election = election_of(&rt, rt.alloc(), 400, &lines)?;
-    expect_pair(&rt, &election, 400, 1, 5, true);
-    expect_pair(&rt, &election, 1, 400, 2, false);
-    expect_pair(&rt, &election, 200, 199, 2, false);
-    expect_pair(&rt, &election, 199, 200, 5, true);
-    expect_pair(&rt, &election, 1, 399, 7, true);
-    expect_pair(&rt, &election, 399, 1, 0, false);
-    expect_pair(&rt, &election, 82, 83, 7, true);
-    expect_pair(&rt, &election, 83, 82, 0, false);
-    Ok(())
-}
-
 // So many alternatives that a table is filled in blocks of lines. The last block isn't full.
 const MANY: u16 = 130;
 

@@ -7,4 +7,5 @@ both : (a b : Bool) → (a && b) ≡ true → a ≡ true
 both a b h = grind arith
 
 pub returns : goal.returns
-returns c x m = both _ (set.contains c.args.some.now x) (sym (contains-intersection c.args.whole.now c.args.some.now x) ∙ sym (ap (λ s. set.contains s x) c.inter.ensures) ∙ m)
+returns c x m = both _ (set.contains c.args.some.now x) (sym (contains-intersection c.args.whole.now c.args.some.now x)
+    ∙ sym (ap (λ s. set.contains s x) c.inter.ensures) ∙ m)
