@@ -8,10 +8,11 @@ use vir_derive::{
 use vir_read::TextError;
 use vir_rules::Prop;
 
-// The signature of a rule's text for these numbers.
-fn signature_of(alloc: Global, text: &str, numbers: &[u32]) -> Result<Signature, TextError> {
+// The signature of a rule's text for the numbers 1, 2 and 7.
+fn signature_of(alloc: Global, text: &str) -> Result<Signature, TextError> {
     let term = term_of(alloc, text)?;
-    Ok(signature(alloc, &term, numbers)?)
+    let found = signature(alloc, &term, &[1, 2, 7])?;
+    Ok(found)
 }
 
 // A rule, and whether a property is in its signature for the numbers 1, 2 and 7.
@@ -33,7 +34,7 @@ const IN_SIGNATURE: &[(&str, Prop, bool)] = &[
 fn a_signature_has_what_is_derivable(rt: HostRuntime) -> Result<(), TextError> {
     let alloc = rt.alloc();
     for (text, prop, expected) in IN_SIGNATURE {
-        let found = signature_of(alloc, text, &[1, 2, 7])?;
+        let found = signature_of(alloc, text)?;
         assert!(rt; found.has(*prop) == *expected, "{text}");
         assert!(rt; found.copy(alloc)? == found, "{text}");
     }
@@ -57,7 +58,7 @@ fn expect_signature(
     found: Signature,
     text: &str,
 ) -> Result<(), TextError> {
-    let expected = signature_of(alloc, text, &[1, 2, 7])?;
+    let expected = signature_of(alloc, text)?;
     assert!(rt; found == expected, "{text}");
     Ok(())
 }
@@ -66,8 +67,8 @@ fn expect_signature(
 fn signatures_of_compositions_follow_from_those_of_parts(rt: HostRuntime) -> Result<(), TextError> {
     let alloc = rt.alloc();
     for (first, second) in PARTS {
-        let m = signature_of(alloc, first, &[1, 2, 7])?;
-        let n = signature_of(alloc, second, &[1, 2, 7])?;
+        let m = signature_of(alloc, first)?;
+        let n = signature_of(alloc, second)?;
         let rev = format!(in alloc; "rev({first})")?;
         expect_signature(&rt, alloc, rev_signature(alloc, &m)?, &rev)?;
         let repeated = format!(in alloc; "loop(1,{first})")?;
@@ -93,8 +94,8 @@ const ONE_SIGNATURE: &[(&str, &str, bool)] = &[
 fn rules_share_signatures(rt: HostRuntime) -> Result<(), TextError> {
     let alloc = rt.alloc();
     for (first, second, expected) in ONE_SIGNATURE {
-        let left = signature_of(alloc, first, &[1, 2, 7])?;
-        let right = signature_of(alloc, second, &[1, 2, 7])?;
+        let left = signature_of(alloc, first)?;
+        let right = signature_of(alloc, second)?;
         assert!(rt; (left == right) == *expected, "{first} {second}");
     }
     Ok(())

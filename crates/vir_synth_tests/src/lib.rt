@@ -1,0 +1,13 @@
+//! The tests of `vir_synth`, in a crate of their own: lists of terms, and the first rules with some
+//! properties.
+//!
+//! There is no code but the tests, so the crate has no contract, and `vir_synth` is proved without them.
+//! It stands on `vir_synth` and `vir_rules`, and on `vir_term`, `vir_read` and `vir_book` for the modules.
+#![tactic(auto)]
+
+#[cfg(test)]
+mod lists;
+#[cfg(test)]
+mod modules;
+#[cfg(test)]
+mod searches;
