@@ -1,0 +1,35 @@
+-- The texts that a call may have to print, and what each must say.
+use Rattle.std.specs.Prelude.{◌≡◌, ℕ, List}
+use Rattle.vir_course.specs.declared.answer.Answer.{Answer}
+use Rattle.vir_course.specs.declared.answer.Answer.TheVariants as answer
+use Rattle.vir_course.specs.Reports.{Reported}
+use Rattle.vir_profile.specs.SocFiles.{File}
+use Rattle.vir_term.specs.Tree.{Tree}
+
+-- What is printed: a text that was asked for, or a denial, which says why it can't be had.
+pub data Reply : Type 0 where
+  prints : List ℕ → Reply
+  denies : List ℕ → Reply
+
+-- an answer of the code
+abbrev pub reply_of : Answer → Reply
+reply_of (answer.Text bytes) = prints bytes.items
+reply_of (answer.Denial bytes) = denies bytes.items
+
+-- What a call is to print.
+pub data Wording : Type 0 where
+  -- this text
+  exactly : List ℕ → Wording
+  -- a report of a rule on a profile with names
+  report_of : Tree → File → Wording
+
+-- The reply is such a text, and what it affirms is so.
+abbrev pub IsWorded : Wording → Reply → Type 0
+IsWorded (exactly bytes) (prints told) = told ≡ bytes
+IsWorded (exactly bytes) (denies told) = ⊥
+IsWorded (report_of term file) (prints told) = Reported term file told
+IsWorded (report_of term file) (denies told) = ⊥
+
+-- So it is of an answer of the code.
+abbrev pub Tells : Wording → Answer → Type 0
+Tells wording given = IsWorded wording (reply_of given)

@@ -1,0 +1,5 @@
+pub mod RuleLemmas
+pub mod FedLemmas
+pub mod ContentLemmas
+pub mod PerformLemmas
+pub mod CallLemmas

@@ -1,0 +1,9 @@
+-- What files say, as the code has it.
+use Rattle.std.specs.Prelude.{◌≡◌}
+use Rattle.vir_files.specs.Readings.{RuleProfile, rule_profile}
+use Rattle.vir_files.specs.declared.two_files.RuleAndProfile.{RuleAndProfile}
+use Rattle.vir_term.specs.Tree.{tree}
+
+-- A rule and a profile are these.
+abbrev pub SeesRuleProfile : RuleProfile → RuleAndProfile → Type 0
+SeesRuleProfile said both = said ≡ rule_profile (tree both.rule) both.file
