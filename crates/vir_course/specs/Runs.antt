@@ -21,10 +21,14 @@ pub record BenchView : Type 0 where
   pub counters : List CounterView
   pub runs : ℕ
 
--- a bench of the code, by what `kinds` and `made` tell of its counters
-abbrev pub seen : {I : Type 0} {F : I → Type 0} → (DynBox I Global F → List LeafKind) → (DynBox I Global F → ℕ)
+-- a bench of the code, by what `kinds` and `made` tell of the counter in each box
+abbrev pub seen : {I : Type 0} {F : I → Type 0} → ((i : I) × F i → List LeafKind) → ((i : I) × F i → ℕ)
     → Bench I F → BenchView
-seen kinds made bench = record { counters = views kinds made bench.counters.items; runs = bench.runs }
+seen kinds made bench =
+    record {
+      counters = views (λ b. kinds (b.vtable, b.value)) (λ b. made (b.vtable, b.value)) bench.counters.items;
+      runs = bench.runs;
+    }
 
 -- the kinds of modules that each counter serves
 abbrev pub served_by : BenchView → List (List LeafKind)

@@ -1,0 +1,10 @@
+-- The courses of the commands that say something of a rule alone. None makes a run.
+use Rattle.vir_code.specs.Code.{code_of}
+use Rattle.vir_code.specs.Listing.{listing_text}
+use Rattle.vir_course.specs.Courses.{Course, gives}
+use Rattle.vir_course.specs.Wordings.{Wording, exactly}
+use Rattle.vir_term.specs.Tree.{Tree}
+
+-- `listing`: the code that the rule is compiled to
+abbrev pub listing_course : Tree → Course Wording
+listing_course term = gives (exactly (listing_text (code_of term)))

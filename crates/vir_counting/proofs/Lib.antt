@@ -1,0 +1,6 @@
+pub mod RunLemmas
+pub mod WorkLemmas
+pub mod ReportLemmas
+pub mod DrillLemmas
+pub mod DrillRunLemmas
+pub mod HeldLemmas

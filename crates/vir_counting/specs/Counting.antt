@@ -1,0 +1,41 @@
+-- The courses of the commands that count, by what their files say and by the kinds of modules that the counters of
+-- the bench serve.
+use Rattle.std.specs.Prelude.{ℕ, List, [], ◌∷◌, None, Some, Ok}
+use Rattle.std.specs.declared.option.Option.{Option}
+use Rattle.vir_counting.specs.DrillResults.{drill_terms, drill_text, first_unserved_of, runs_on}
+use Rattle.vir_course.specs.Courses.{Course, stops}
+use Rattle.vir_course.specs.Reports.{count_text}
+use Rattle.vir_course.specs.Runs.{Run}
+use Rattle.vir_course.specs.Steps.{steps_of_runs}
+use Rattle.vir_course.specs.Wordings.{Wording, exactly, report_of}
+use Rattle.vir_course.specs.declared.stop.Stop.TheVariants as stop
+use Rattle.vir_machine.specs.Uses.{first_unserved}
+use Rattle.vir_profile.specs.Profiles.{Votes}
+use Rattle.vir_profile.specs.SocFiles.{File}
+use Rattle.vir_term.specs.declared.leaf.Leaf.{Leaf}
+use Rattle.vir_term.specs.declared.leaf.LeafKind.{LeafKind}
+use Rattle.vir_term.specs.Text.{leaf_text}
+use Rattle.vir_term.specs.Tree.{Tree}
+
+-- runs, and such a text, unless a counter is missing for a module
+abbrev pub counting_course : Option Leaf → List Run → Wording → Course Wording
+counting_course None runs wording = record { steps = steps_of_runs runs; end = Ok wording }
+counting_course (Some leaf) runs wording = stops (stop.NoCounter (leaf_text leaf))
+
+-- a run of a rule on a profile, and such a text
+abbrev pub run_course : List (List LeafKind) → Tree → File → Wording → Course Wording
+run_course kinds term file wording =
+    counting_course (first_unserved kinds term) (record { term = term; votes = file.profile } ∷ []) wording
+
+-- `count`: what the rule elects, rejects and defers
+abbrev pub count_course : List (List LeafKind) → Tree → File → Course Wording
+count_course kinds term file = run_course kinds term file (exactly (count_text term file.profile))
+
+-- `report`: that, and what is found of each property
+abbrev pub report_course : List (List LeafKind) → Tree → File → Course Wording
+report_course kinds term file = run_course kinds term file (report_of term file)
+
+-- `drill`: a run of each of its rules on a profile, and what they elect
+abbrev pub drill_course : List (List LeafKind) → Votes → Course Wording
+drill_course kinds votes =
+    counting_course (first_unserved_of kinds drill_terms) (runs_on votes drill_terms) (exactly (drill_text votes))
