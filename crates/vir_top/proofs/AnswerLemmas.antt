@@ -1,0 +1,85 @@
+-- What a command answers, by what reading its files and its work come to.
+use Rattle.std.proofs.Common.{◌≡◌, ℕ, Bool, List, [], Option, None, Some, Result, Ok, Err, refl, sym, subst, inr}
+use Rattle.vir_course.specs.Courses.{Course, Follows, and_then}
+use Rattle.vir_course.specs.Runs.{BenchView, served_by}
+use Rattle.vir_course.specs.Wordings.{Tells, Wording}
+use Rattle.vir_course.specs.Works.{Works}
+use Rattle.vir_course.specs.declared.answer.Answer.{Answer}
+use Rattle.vir_course.specs.declared.stop.Stop.{Stop}
+use Rattle.vir_course.specs.declared.stop.Stop.TheVariants as stop
+use Rattle.vir_files.proofs.CallLemmas.{performs_nothing, performs_plain, performs_stop, performs_work}
+use Rattle.vir_files.proofs.RuleLemmas.{SeesTree}
+use Rattle.vir_files.specs.Contents.{Contents}
+use Rattle.vir_files.specs.Performs.{Performs}
+use Rattle.vir_files.specs.Readings.{RuleProfile, rule_and_profile_of, rule_at, rule_profile}
+use Rattle.vir_files.specs.Values.{SeesRuleProfile}
+use Rattle.vir_files.specs.declared.two_files.RuleAndProfile.{RuleAndProfile}
+use Rattle.vir_outside.specs.Shelf.{Files}
+use Rattle.vir_profile.specs.SocFiles.{File}
+use Rattle.vir_term.specs.declared.leaf.LeafKind.{LeafKind}
+use Rattle.vir_term.specs.declared.term.Term.{Term}
+use Rattle.vir_term.specs.Tree.{Tree, tree}
+use Rattle.vir_top.specs.Calls.{AnswersWords}
+use Rattle.vir_top.specs.Command.{Command}
+use Rattle.vir_top.specs.CommandCourses.{command_course}
+
+module _ (files : Option Files) (rose untouched : Type 0) (selected : Bool) (rest : Option (List ℕ)) where
+  -- ---- a rule file and a profile, and work on the bench by what they say and which modules the bench serves
+  module _ (course : List (List LeafKind) → Tree → File → Course Wording) (rule profile : List ℕ) where
+    abbrev reads_both : Contents → Course RuleProfile
+    reads_both contents = rule_and_profile_of contents rule profile
+
+    abbrev works_both : BenchView → RuleProfile → Course Wording
+    works_both bench said = course (served_by bench) said.term said.file
+
+    abbrev both_course : BenchView → Contents → Course Wording
+    both_course bench contents = and_then (reads_both contents) (works_both bench)
+
+    -- one of them isn't read
+    pub both_stop : (bench : BenchView) (reason : Stop)
+        → Performs reads_both SeesRuleProfile files rose ⊥ bench bench selected rest (Err reason)
+        → Performs (both_course bench) Tells files rose untouched bench bench selected rest (Err reason)
+    both_stop bench reason r =
+        performs_stop reads_both (works_both bench) SeesRuleProfile Tells files rose untouched bench selected rest
+        reason r
+
+    -- they are read, and worked on
+    pub both_work : (old new : BenchView) (both : RuleAndProfile) (answer : Result Answer Stop)
+        → Performs reads_both SeesRuleProfile files rose ⊥ old old selected rest (Ok both)
+        → Works (course (served_by old) (tree both.rule) both.file) Tells old new answer
+        → Performs (both_course old) Tells files rose untouched old new selected rest answer
+    both_work old new both answer r works =
+        performs_work reads_both (works_both old) SeesRuleProfile Tells files rose untouched old selected rest both new
+        answer r
+        (λ said sees. subst (λ (s : RuleProfile). Works (works_both old s) Tells old new answer) (sym sees) works)
+
+  -- ---- a rule file, and an answer by what it says
+  module _ (course : Tree → Course Wording) (rule : List ℕ) where
+    abbrev reads_rule : Contents → Course Tree
+    reads_rule contents = rule_at contents 0 rule
+
+    abbrev rule_course : Contents → Course Wording
+    rule_course contents = and_then (reads_rule contents) course
+
+    -- it isn't read
+    pub rule_stop : (bench : BenchView) (reason : Stop)
+        → Performs reads_rule SeesTree files rose ⊥ bench bench selected rest (Err reason)
+        → Performs rule_course Tells files rose untouched bench bench selected rest (Err reason)
+    rule_stop bench reason r =
+        performs_stop reads_rule course SeesTree Tells files rose untouched bench selected rest reason r
+
+    -- it is read, and answered by
+    pub rule_plain : (bench : BenchView) (term : Term) (answer : Result Answer Stop)
+        → Performs reads_rule SeesTree files rose ⊥ bench bench selected rest (Ok term)
+        → Follows Tells ⊥ (course (tree term)) [] answer
+        → Performs rule_course Tells files rose untouched bench bench selected rest answer
+    rule_plain bench term answer r follows =
+        performs_plain reads_rule course SeesTree Tells files rose untouched bench selected rest term answer r
+        (λ said sees. subst (λ (t : Tree). Follows Tells ⊥ (course t) [] answer) (sym sees) follows)
+
+  -- ---- words whose reading wants memory
+  pub answers_wanting : (command : Option Command) (bench : BenchView) → untouched
+      → AnswersWords command files rose untouched bench bench selected rest (Err stop.Memory)
+  answers_wanting None bench is = record { reason = inr refl; bench = refl; shelf = is }
+  answers_wanting (Some command) bench is =
+      performs_nothing (command_course (served_by bench) command) Tells files rose untouched bench selected rest is

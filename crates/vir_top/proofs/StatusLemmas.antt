@@ -1,0 +1,156 @@
+-- What follows of an answer that is delivered, by its status.
+use Rattle.std.proofs.Common.{◌≡◌, ◌⊎◌, ℕ, Bool, List, Option, None, Some, Result, Ok, Err, refl, sym, ap, subst, ◌∙◌}
+use Rattle.std.proofs.Common.{inl, inr, arith}
+use Rattle.std.specs.Io.KnownBytes.{Appends}
+use Rattle.vir_course.specs.Courses.{Course, Follows}
+use Rattle.vir_course.specs.Runs.{BenchView, served_by}
+use Rattle.vir_course.specs.Steps.{Step}
+use Rattle.vir_course.specs.Wordings.{IsWorded, Reply, Tells, Wording, prints, reply_of}
+use Rattle.vir_course.specs.declared.answer.Answer.{Answer}
+use Rattle.vir_course.specs.declared.answer.Answer.TheVariants as answer
+use Rattle.vir_course.specs.declared.stop.Stop.{Stop}
+use Rattle.vir_course.specs.declared.stop.Stop.TheVariants as stop
+use Rattle.vir_files.specs.Contents.{AreContents, Contents}
+use Rattle.vir_files.specs.Performs.{Performs}
+use Rattle.vir_outside.specs.Faults.{Rose}
+use Rattle.vir_outside.specs.Shelf.{Files}
+use Rattle.vir_top.specs.Calls.{AnswersWords, Calls}
+use Rattle.vir_top.specs.Command.{Command}
+use Rattle.vir_top.specs.CommandCourses.{command_course}
+use Rattle.vir_top.specs.Delivery.{Delivers, SinkView, stop_status}
+use Rattle.vir_top.specs.Printed.{IsDue, Printed, told_contents}
+
+-- no reason to stop has status 0
+never_printed : (reason : Stop) → stop_status reason ≡ 0 → ⊥
+never_printed stop.Usage e = omega arith
+never_printed stop.ReadFault e = omega arith
+never_printed (stop.TextRefused fault) e = omega arith
+never_printed (stop.ProfileRefused fault) e = omega arith
+never_printed stop.WriteFault e = omega arith
+never_printed stop.Memory e = omega arith
+never_printed (stop.NoCounter text) e = omega arith
+
+-- the text of status 0
+record IsText (given : Result Answer Stop) (old new : Option (List ℕ)) : Type 0 where
+  of : Answer
+  is_answer : given ≡ Ok of
+  bytes : List ℕ
+  is_text : reply_of of ≡ prints bytes
+  appended : Appends old new bytes
+
+printed_text : (given : Result Answer Stop) (status : ℕ) (old new err_old err_new : SinkView)
+    (unwritten untold : Type 0) → Delivers given status old new err_old err_new unwritten untold → status ≡ 0
+    → IsText given old.written new.written
+printed_text (Ok (answer.Text text)) status old new err_old err_new unwritten untold (inl w) is =
+    record { of = answer.Text text; is_answer = refl; bytes = text.items; is_text = refl; appended = w.whole }
+printed_text (Ok (answer.Denial text)) status old new err_old err_new unwritten untold (inl w) is = let e : status ≡ 1 =
+    w.status_is in absurd (omega arith)
+printed_text (Ok given) status old new err_old err_new unwritten untold (inr b) is = let e : status ≡ 6 = b.status_is
+    in absurd (omega arith)
+printed_text (Err reason) status old new err_old err_new unwritten untold told is =
+    absurd (never_printed reason (sym told.status_is ∙ is))
+
+module _ (course : Contents → Course Wording) (files : Option Files) (read_rose untouched : Type 0)
+    (before after : BenchView) (selected : Bool) (rest : Option (List ℕ)) (status : ℕ)
+    (old new err_old err_new : SinkView) (unwritten untold : Type 0) where
+  abbrev DeliversIt : Result Answer Stop → Type 0
+  DeliversIt given = Delivers given status old new err_old err_new unwritten untold
+
+  abbrev PerformsIt : Result Answer Stop → Type 0
+  PerformsIt given = Performs course Tells files read_rose untouched before after selected rest given
+
+  pub printed_of : (given : Result Answer Stop) → PerformsIt given → DeliversIt given → status ≡ 0
+      → Printed course files old.written new.written
+  printed_of given p d is =
+      let t = printed_text given status old new err_old err_new unwritten untold d is in
+      let r = subst (λ (a : Result Answer Stop). Follows Tells read_rose (course p.contents) p.made a) t.is_answer
+      p.follows in
+      record {
+        contents = p.contents;
+        are_contents = p.are_contents;
+        wording = r.value;
+        end_is = r.end_is;
+        bytes = t.bytes;
+        worded = subst (λ (reply : Reply). IsWorded r.value reply) t.is_text r.sees;
+        appended = t.appended;
+      }
+
+  -- ---- what is due
+  abbrev write_rose : Type 0
+  write_rose = Rose old.faults new.faults
+
+  due_told : (given : Answer) (wording : Wording) → DeliversIt (Ok given) → IsDue (Ok wording) status read_rose
+      write_rose
+  due_told (answer.Text text) wording (inl w) = inr (inl (inl w.status_is))
+  due_told (answer.Denial text) wording (inl w) = inr (inl (inr w.status_is))
+  due_told given wording (inr b) = inl (inr b.failed)
+
+  ok_not_err : (end : Result Wording Stop) (wording : Wording) (reason : Stop) → end ≡ Ok wording → end ≡ Err reason → ⊥
+  ok_not_err end wording reason a b = cc
+
+  -- of an end that steps lead to
+  due_stop : (end : Result Wording Stop) (reason : Stop) → end ≡ Err reason → DeliversIt (Err reason)
+      → IsDue end status read_rose write_rose
+  due_stop (Ok wording) reason e d = absurd cc
+  due_stop (Err other) reason e d = let same : reason ≡ other = cc in inr (inl (d.status_is ∙ ap stop_status same))
+
+  due_memory : (end : Result Wording Stop) → status ≡ 7 → IsDue end status read_rose write_rose
+  due_memory (Ok wording) is = inr (inr is)
+  due_memory (Err reason) is = inr (inr is)
+
+  due_rose : (end : Result Wording Stop) → read_rose → IsDue end status read_rose write_rose
+  due_rose (Ok wording) rose = inl (inl rose)
+  due_rose (Err reason) rose = inl rose
+
+  due_ok : (end : Result Wording Stop) (wording : Wording) (given : Answer) → end ≡ Ok wording → DeliversIt (Ok given)
+      → IsDue end status read_rose write_rose
+  due_ok (Ok other) wording given e d = due_told given other d
+  due_ok (Err reason) wording given e d = absurd cc
+
+  due : (c : Course Wording) (made : List Step) (given : Result Answer Stop) → Follows Tells read_rose c made given
+      → DeliversIt given → IsDue c.end status read_rose write_rose
+  due c made (Ok given) f d = due_ok c.end f.value given f.end_is d
+  due c made (Err stop.Usage) f d = absurd f
+  due c made (Err stop.ReadFault) (inl (rose, begins)) d = due_rose c.end rose
+  due c made (Err stop.ReadFault) (inr s) d = due_stop c.end stop.ReadFault s.end_is d
+  due c made (Err (stop.TextRefused fault)) f d = due_stop c.end (stop.TextRefused fault) f.end_is d
+  due c made (Err (stop.ProfileRefused fault)) f d = due_stop c.end (stop.ProfileRefused fault) f.end_is d
+  due c made (Err stop.WriteFault) f d = absurd f
+  due c made (Err stop.Memory) f d = due_memory c.end d.status_is
+  due c made (Err (stop.NoCounter text)) f d = due_stop c.end (stop.NoCounter text) f.end_is d
+
+  -- the contents of told files are theirs
+  same_contents : (all : Files) (contents : Contents) → files ≡ Some all → AreContents files contents → contents
+      ≡ told_contents all
+  same_contents all contents is are = let told = subst (λ (fs : Option Files). AreContents fs contents) is are
+      in (λ i place name. told place name i)
+
+  pub due_of_told : (all : Files) (given : Result Answer Stop) → files ≡ Some all → PerformsIt given → DeliversIt given
+      → IsDue (course (told_contents all)).end status read_rose write_rose
+  due_of_told all given is p d =
+      let here : IsDue (course p.contents).end status read_rose write_rose = due (course p.contents) p.made given
+      p.follows d in
+      subst (λ (contents : Contents). IsDue (course contents).end status read_rose write_rose)
+      (same_contents all p.contents is p.are_contents) here
+
+-- ---- of a call
+module _ (words : Option Command) (files : Option Files) (read_rose untouched : Type 0) (before after : BenchView)
+    (selected : Bool) (rest : Option (List ℕ)) (status : ℕ) (old new err_old err_new : SinkView)
+    (unwritten untold : Type 0)
+    (calls : Calls (AnswersWords words files read_rose untouched before after selected rest)
+    (λ given. Delivers given status old new err_old err_new unwritten untold)) (command : Command) (asks : words
+    ≡ Some command) where
+  performs : Performs (command_course (served_by before) command) Tells files read_rose untouched before after selected
+      rest calls.answer
+  performs = subst (λ (o : Option Command). AnswersWords o files read_rose untouched before after selected rest
+      calls.answer) asks calls.answers
+
+  pub call_printed : status ≡ 0 → Printed (command_course (served_by before) command) files old.written new.written
+  call_printed is = printed_of (command_course (served_by before) command) files read_rose untouched before after
+      selected rest status old new err_old err_new unwritten untold calls.answer performs calls.delivers is
+
+  pub call_due : (all : Files) → files ≡ Some all
+      → IsDue (command_course (served_by before) command (told_contents all)).end status read_rose
+      (Rose old.faults new.faults)
+  call_due all is = due_of_told (command_course (served_by before) command) files read_rose untouched before after
+      selected rest status old new err_old err_new unwritten untold all calls.answer is performs calls.delivers

@@ -1,0 +1,15 @@
+pub mod Command
+pub mod CommandCourses
+pub mod Delivery
+pub mod Calls
+pub mod Printed
+pub mod Headline
+pub mod WordNumbers
+pub use Rattle.vir_outside.specs.Faults
+pub use Rattle.vir_outside.specs.Shelf
+pub use Rattle.vir_outside.specs.Sink
+pub use Rattle.vir_course.specs.Courses
+pub use Rattle.vir_course.specs.Wordings
+pub use Rattle.vir_files.specs.Performs
+pub use Rattle.vir_counting.specs.Counting
+pub use Rattle.vir_claims.specs.Claims

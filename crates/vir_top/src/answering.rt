@@ -1,0 +1,114 @@
+// What the words ask for, done with the files of the shelf and on the bench.
+ghost use Rattle.std.specs.Prelude.{◌≡◌, ◌≤◌};
+ghost use Rattle.vir_course.specs.Runs.{BenchView, seen, served_by};
+ghost use Rattle.vir_course.specs.Wordings.{Tells};
+ghost use Rattle.vir_files.specs.Performs.{Performs};
+ghost use Rattle.vir_outside.specs.Faults.{Rose};
+ghost use Rattle.vir_top.specs.Calls.{AnswersWords};
+ghost use Rattle.vir_top.specs.Command.{IsInRange, command_in, command_seen, count, listing, report};
+ghost use Rattle.vir_top.specs.CommandCourses.{command_course};
+
+use crate::command::{Command, read_words};
+use std::alloc::Global;
+use vir_claims::listing;
+use vir_counting::{count, drill, report};
+use vir_course::{Answer, Stop};
+use vir_files::{RuleAndProfile, rule, rule_and_profile};
+use vir_machine::Bench;
+use vir_outside::Shelf;
+
+// Answers `count` for the files of these names.
+fn answer_count<S: Shelf>(
+    alloc: Global,
+    shelf: &mut S,
+    bench: &mut Bench,
+    rule_name: &str,
+    profile_name: &str,
+) -> Result<Answer, Stop>
+    ensures performs { Performs
+        (command_course (served_by (seen kinds made bench.old)) (count rule_name.now profile_name.now)) Tells
+        (S.files shelf.old) (Rose (S.faults shelf.old) (S.faults shelf.new)) (shelf.new ≡ shelf.old)
+        (seen kinds made bench.old) (seen kinds made bench.new) (S.selected shelf.new) (S.rest shelf.new) result }
+    ensures files { S.files shelf.new ≡ S.files shelf.old }
+    ensures later { S.faults shelf.old ≤ S.faults shelf.new }
+{
+    let RuleAndProfile { rule, file } = rule_and_profile(alloc, shelf, rule_name, profile_name)?;
+    count(alloc, bench, &rule, file)
+}
+
+// Answers `report` for the files of these names.
+fn answer_report<S: Shelf>(
+    alloc: Global,
+    shelf: &mut S,
+    bench: &mut Bench,
+    rule_name: &str,
+    profile_name: &str,
+) -> Result<Answer, Stop>
+    ensures performs { Performs
+        (command_course (served_by (seen kinds made bench.old)) (report rule_name.now profile_name.now)) Tells
+        (S.files shelf.old) (Rose (S.faults shelf.old) (S.faults shelf.new)) (shelf.new ≡ shelf.old)
+        (seen kinds made bench.old) (seen kinds made bench.new) (S.selected shelf.new) (S.rest shelf.new) result }
+    ensures files { S.files shelf.new ≡ S.files shelf.old }
+    ensures later { S.faults shelf.old ≤ S.faults shelf.new }
+{
+    let RuleAndProfile { rule, file } = rule_and_profile(alloc, shelf, rule_name, profile_name)?;
+    report(alloc, bench, &rule, file)
+}
+
+// Answers `listing` for the file of this name.
+fn answer_listing<S: Shelf>(alloc: Global, shelf: &mut S, rule_name: &str) -> Result<Answer, Stop>
+    ensures performs { (bench : BenchView) → Performs (command_course (served_by bench) (listing rule_name.now)) Tells
+        (S.files shelf.old) (Rose (S.faults shelf.old) (S.faults shelf.new)) (shelf.new ≡ shelf.old)
+        bench bench (S.selected shelf.new) (S.rest shelf.new) result }
+    ensures files { S.files shelf.new ≡ S.files shelf.old }
+    ensures later { S.faults shelf.old ≤ S.faults shelf.new }
+{
+    let rule = rule(alloc, shelf, rule_name)?;
+    listing(alloc, &rule)
+}
+
+// Answers a command.
+fn answer_command<S: Shelf>(
+    alloc: Global,
+    command: &Command,
+    shelf: &mut S,
+    bench: &mut Bench,
+) -> Result<Answer, Stop>
+    requires { IsInRange (command_seen command.now) }
+    ensures performs { Performs (command_course (served_by (seen kinds made bench.old)) (command_seen command.now)) Tells
+        (S.files shelf.old) (Rose (S.faults shelf.old) (S.faults shelf.new)) (shelf.new ≡ shelf.old)
+        (seen kinds made bench.old) (seen kinds made bench.new) (S.selected shelf.new) (S.rest shelf.new) result }
+    ensures files { S.files shelf.new ≡ S.files shelf.old }
+    ensures later { S.faults shelf.old ≤ S.faults shelf.new }
+{
+    match command {
+        Command::Count { rule, profile } => answer_count(alloc, shelf, bench, rule, profile),
+        Command::Report { rule, profile } => answer_report(alloc, shelf, bench, rule, profile),
+        Command::Listing { rule } => answer_listing(alloc, shelf, rule),
+        Command::Drill {
+            seed,
+            lines,
+            alternatives,
+        } => drill(alloc, bench, *seed, *lines, *alternatives),
+    }
+}
+
+/// Answers what the words ask for. Words that are no command stop it before the shelf is touched.
+pub fn answer<S: Shelf>(
+    alloc: Global,
+    words: &[String],
+    shelf: &mut S,
+    bench: &mut Bench,
+) -> Result<Answer, Stop>
+    ensures answers { AnswersWords (command_in words.now)
+        (S.files shelf.old) (Rose (S.faults shelf.old) (S.faults shelf.new)) (shelf.new ≡ shelf.old)
+        (seen kinds made bench.old) (seen kinds made bench.new) (S.selected shelf.new) (S.rest shelf.new) result }
+    ensures files { S.files shelf.new ≡ S.files shelf.old }
+    ensures later { S.faults shelf.old ≤ S.faults shelf.new }
+{
+    match read_words(alloc, words) {
+        Ok(Some(command)) => answer_command(alloc, &command, shelf, bench),
+        Ok(None) => Err(Stop::Usage),
+        Err(_) => Err(Stop::Memory),
+    }
+}
