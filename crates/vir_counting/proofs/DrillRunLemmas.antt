@@ -4,6 +4,7 @@ use Rattle.std.proofs.Common.{◌++◌, map, Option, None, Some, Result, Ok, Err
 use Rattle.std.proofs.Common.{inr, arith}
 use Rattle.std.proofs.Math.Seq.{take-length}
 use Rattle.std.specs.Prelude.{slice_index_or}
+use Rattle.vir_machine.proofs.Served.{served_of_none}
 use Rattle.vir_machine.specs.Bench.{is_served}
 use Rattle.vir_machine.specs.Uses.{all_served, first_unserved, or_else, uses}
 use Rattle.vir_machine.proofs.Raised.{kinds_of-raised}
@@ -17,7 +18,7 @@ use Rattle.vir_term.specs.Limits.{IsWithinLimits}
 use Rattle.vir_term.specs.Tree.{Tree, tree, leaf, rev, seq, par, loop}
 use Rattle.vir_counting.specs.DrillResults.{AreServed, AreWithinLimits, MadeFirst, drill_terms, drill_text, elected_lines}
 use Rattle.vir_counting.specs.DrillResults.{first_unserved_of, runs_on, size_line}
-use Rattle.vir_course.specs.Runs.{BenchView, Run, after_run, served_by}
+use Rattle.vir_machine.specs.Runs.{BenchView, Run, after_run, served_by}
 use Rattle.vir_course.specs.Steps.{after_steps, steps_of_runs}
 
 -- ---- the first of some terms, and the others
@@ -41,21 +42,6 @@ none_right (Some l) p e = absurd cc
 
 both : (a b : Bool) → a ≡ true → b ≡ true → (a && b) ≡ true
 both a b one two = grind arith
-
--- where no module is the first that isn't served, all are
-served_of_none : (served : List (List LeafKind)) (t : Tree) → first_unserved served t ≡ None → all_served served t
-    ≡ true
-served_of_none served (leaf l) e = at (is_served served (kind_of l)) e
-  where
-    at : (b : Bool) → cond b None (Some l) ≡ None → b ≡ true
-    at true same = refl
-    at false same = absurd cc
-served_of_none served (rev part) e = served_of_none served part e
-served_of_none served (seq first second) e = both _ _ (served_of_none served first (none_left _ _ e))
-    (served_of_none served second (none_right (first_unserved served first) _ e))
-served_of_none served (par first second) e = both _ _ (served_of_none served first (none_left _ _ e))
-    (served_of_none served second (none_right (first_unserved served first) _ e))
-served_of_none served (loop k body) e = served_of_none served body e
 
 pub served_first : (bench : BenchView) (terms : List Tree) (t : Tree) (rest : List Tree) → terms ≡ t ∷ rest
     → AreServed bench terms → all_served (served_by bench) t ≡ true

@@ -11,7 +11,7 @@ use Rattle.vir_profile.specs.Profiles.{IsProfile, Votes, restrict}
 use Rattle.vir_profile.specs.SocFiles.{File}
 use Rattle.vir_profile.proofs.RestrictionLaws.{profiles_are_complete, restricted_to_the_whole}
 use Rattle.vir_term.specs.Tree.{Tree}
-use Rattle.vir_course.specs.Runs.{BenchView, after_run, served_by}
+use Rattle.vir_machine.specs.Runs.{BenchView, after_run, served_by}
 
 -- the ballots of an election, restricted to all of its alternatives, are those of its profile
 pub whole_of : (election file : File) (number : ℕ) (domain : Set) → election ≡ file → domain ≡ all number → number

@@ -6,7 +6,7 @@ use Rattle.vir_altset.specs.Sets.{all}
 use Rattle.vir_altset.specs.declared.split.Split.{Split}
 use Rattle.vir_course.specs.Courses.{Course, Follows, Reaches}
 use Rattle.vir_course.specs.Reports.{count_text}
-use Rattle.vir_course.specs.Runs.{BenchView, Run, after_run}
+use Rattle.vir_machine.specs.Runs.{BenchView, Run, after_run}
 use Rattle.vir_course.specs.Steps.{Step, after_steps, makes, steps_of_runs}
 use Rattle.vir_course.specs.Wordings.{Tells, Wording}
 use Rattle.vir_course.specs.Works.{Works}

@@ -5,7 +5,7 @@ use Rattle.std.specs.declared.option.Option.{Option}
 use Rattle.vir_counting.specs.DrillResults.{drill_terms, drill_text, first_unserved_of, runs_on}
 use Rattle.vir_course.specs.Courses.{Course, stops}
 use Rattle.vir_course.specs.Reports.{count_text}
-use Rattle.vir_course.specs.Runs.{Run}
+use Rattle.vir_machine.specs.Runs.{Run}
 use Rattle.vir_course.specs.Steps.{steps_of_runs}
 use Rattle.vir_course.specs.Wordings.{Wording, exactly, report_of}
 use Rattle.vir_course.specs.declared.stop.Stop.TheVariants as stop

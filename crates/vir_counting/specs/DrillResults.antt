@@ -14,7 +14,7 @@ use Rattle.vir_term.specs.Limits.{IsWithinLimits}
 use Rattle.vir_term.specs.Text.{term_text}
 use Rattle.vir_term.specs.Tree.{Tree, leaf, seq, loop, exactly}
 use Rattle.vir_report.specs.ResultText.{set_line}
-use Rattle.vir_course.specs.Runs.{BenchView, Run, served_by}
+use Rattle.vir_machine.specs.Runs.{BenchView, Run, served_by}
 use Rattle.vir_course.specs.Steps.{after_steps, steps_of_runs}
 
 -- the rules, in order

@@ -1,6 +1,6 @@
 // What a rule elects, rejects and defers of a profile.
 ghost use Rattle.std.specs.Prelude.{◌≡◌};
-ghost use Rattle.vir_course.specs.Runs.{seen, served_by};
+ghost use Rattle.vir_machine.specs.Runs.{seen, served_by};
 ghost use Rattle.vir_course.specs.Wordings.{Tells};
 ghost use Rattle.vir_course.specs.Works.{Works};
 ghost use Rattle.vir_term.specs.Limits.{IsWithinLimits};

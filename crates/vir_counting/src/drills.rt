@@ -5,7 +5,7 @@ ghost use Rattle.vir_counting.specs.Counting.{drill_course};
 ghost use Rattle.vir_counting.specs.Drill.{drill_votes};
 ghost use Rattle.vir_counting.specs.DrillResults.{AreServed, AreWithinLimits, MadeFirst, elected_lines, first_unserved_of};
 ghost use Rattle.vir_counting.specs.DrillResults.{runs_on, size_line};
-ghost use Rattle.vir_course.specs.Runs.{seen, served_by};
+ghost use Rattle.vir_machine.specs.Runs.{seen, served_by};
 ghost use Rattle.vir_course.specs.Steps.{after_steps, steps_of_runs};
 ghost use Rattle.vir_course.specs.Wordings.{Tells};
 ghost use Rattle.vir_course.specs.Works.{Works};

@@ -12,7 +12,7 @@ ghost use Rattle.vir_course.specs.Wordings.{Tells};
 ghost use Rattle.vir_course.specs.Works.{Works};
 ghost use Rattle.vir_counting.specs.Findings.{IsReport, TellsOf};
 ghost use Rattle.vir_counting.specs.Counting.{report_course};
-ghost use Rattle.vir_course.specs.Runs.{after_run, seen, served_by};
+ghost use Rattle.vir_machine.specs.Runs.{after_run, seen, served_by};
 
 use crate::run::split_of_file;
 use either::Either;

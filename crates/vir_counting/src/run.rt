@@ -5,7 +5,7 @@ ghost use Rattle.vir_machine.specs.Uses.{all_served};
 ghost use Rattle.vir_mean.specs.Meaning.{mean};
 ghost use Rattle.vir_term.specs.Limits.{IsWithinLimits};
 ghost use Rattle.vir_term.specs.Tree.{tree};
-ghost use Rattle.vir_course.specs.Runs.{after_run, seen, served_by};
+ghost use Rattle.vir_machine.specs.Runs.{after_run, seen, served_by};
 
 use crate::pairs::asks_about_pairs;
 use std::alloc::{AllocError, Global};

@@ -1,6 +1,6 @@
 -- Steps behind steps.
 use Rattle.std.proofs.Common.{◌≡◌, List, [], ◌∷◌, ◌++◌, Option, Some, refl}
-use Rattle.vir_course.specs.Runs.{BenchView, Run, after_run}
+use Rattle.vir_machine.specs.Runs.{BenchView, Run, after_run}
 use Rattle.vir_course.specs.Steps.{Asked, Step, after_steps, last_read, makes, steps_of_runs, reads}
 
 pub after_steps-append : (first next : List Step) (bench : BenchView) → after_steps (first ++ next) bench

@@ -1,7 +1,7 @@
 -- The steps of a call, and what they make of the bench and the shelf.
 use Rattle.std.specs.Prelude.{ℕ, List, [], ◌∷◌, map, Some}
 use Rattle.std.specs.declared.option.Option.{Option}
-use Rattle.vir_course.specs.Runs.{BenchView, Run, after_run}
+use Rattle.vir_machine.specs.Runs.{BenchView, Run, after_run}
 
 -- A file that a call comes to: its name, and how many bytes one of its kind may have.
 pub record Asked : Type 0 where

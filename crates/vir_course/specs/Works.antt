@@ -1,7 +1,7 @@
 -- What a call does with a bench that follows a course without files.
 use Rattle.std.specs.Prelude.{◌≡◌, List, Result}
 use Rattle.vir_course.specs.Courses.{Course, Follows}
-use Rattle.vir_course.specs.Runs.{BenchView, Run}
+use Rattle.vir_machine.specs.Runs.{BenchView, Run}
 use Rattle.vir_course.specs.Steps.{after_steps, steps_of_runs}
 use Rattle.vir_course.specs.declared.stop.Stop.{Stop}
 

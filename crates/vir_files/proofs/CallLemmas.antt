@@ -2,7 +2,7 @@
 use Rattle.std.proofs.Common.{◌≡◌, ◌⊎◌, ℕ, Bool, List, [], ◌++◌, Option, None, Some, IsTrue, Result, Ok, Err, refl}
 use Rattle.std.proofs.Common.{sym, ap, subst, ◌∙◌, inl, inr}
 use Rattle.vir_course.specs.Courses.{Course, Follows, and_then}
-use Rattle.vir_course.specs.Runs.{BenchView}
+use Rattle.vir_machine.specs.Runs.{BenchView}
 use Rattle.vir_course.specs.Steps.{Asked, Step, after_steps, last_read, steps_of_runs}
 use Rattle.vir_course.specs.Works.{Works}
 use Rattle.vir_course.specs.declared.stop.Stop.{Stop}

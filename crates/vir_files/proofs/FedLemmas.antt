@@ -15,7 +15,7 @@ use Rattle.vir_soc.specs.Reader.Answers.{Shows}
 use Rattle.vir_soc.specs.Checks.{◌>>=◌, fault_of}
 use Rattle.vir_soc.specs.Content.{Content}
 use Rattle.vir_soc.specs.Soc.{ended_content, settled, too_long}
-use Rattle.vir_soc.specs.declared.soc_reader.TheConstants.{SIZE_LIMIT}
+use Rattle.vir_soc.specs.declared.soc_reader.TheConstants.{PROFILE_SIZE_LIMIT}
 use Rattle.vir_soc.specs.Reader.Stands.{stands}
 use Rattle.vir_soc.proofs.StandLemmas.{fault_stays}
 use Rattle.vir_course.specs.declared.stop.Stop.{Stop}
@@ -32,7 +32,7 @@ pub record IsFeeding (told : Option Files) (before : ℕ) (rest : Option (List �
     0 where
   pub same_files : files ≡ told
   pub is_selected : IsTrue selected
-  pub within : taken ≤ SIZE_LIMIT
+  pub within : taken ≤ PROFILE_SIZE_LIMIT
   pub later : before ≤ now
   pub fed : List ℕ
   pub stands_for : reader ≡ stands fed
@@ -54,12 +54,12 @@ never_none A (Ok s) f none = cc
 never_none A (Err g) f none = cc
 
 -- bytes that settle no fault are within the size limit
-pub settled-within : (bytes : List ℕ) → settled bytes ≡ None → length bytes ≤ SIZE_LIMIT
-settled-within bytes none = elim (nat_le (length bytes) SIZE_LIMIT) as (λ b. nat_le (length bytes) SIZE_LIMIT ≡ b
-    → length bytes ≤ SIZE_LIMIT) [
+pub settled-within : (bytes : List ℕ) → settled bytes ≡ None → length bytes ≤ PROFILE_SIZE_LIMIT
+settled-within bytes none = elim (nat_le (length bytes) PROFILE_SIZE_LIMIT) as (λ b. nat_le (length bytes) PROFILE_SIZE_LIMIT ≡ b
+    → length bytes ≤ PROFILE_SIZE_LIMIT) [
       | true ↦ λ e. grind (arith, nat_tests)
-      | false ↦ λ e. absurd (never_none Content (ended_content (take SIZE_LIMIT bytes)) _
-          (ap (λ b. fault_of (cond b (ended_content bytes) (too_long (take SIZE_LIMIT bytes)))) (sym e) ∙ none))
+      | false ↦ λ e. absurd (never_none Content (ended_content (take PROFILE_SIZE_LIMIT bytes)) _
+          (ap (λ b. fault_of (cond b (ended_content bytes) (too_long (take PROFILE_SIZE_LIMIT bytes)))) (sym e) ∙ none))
     ] refl
 
 -- the fault that a reader shows at a piece is that of the rest

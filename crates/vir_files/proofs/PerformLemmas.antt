@@ -2,7 +2,7 @@
 use Rattle.std.proofs.Common.{◌≡◌, ◌⊎◌, ℕ, zero, suc, ◌+◌, Bool, List, [], ◌∷◌, Option, None, IsTrue}
 use Rattle.std.proofs.Common.{Result, Ok, Err, refl, ap, subst, inl, inr}
 use Rattle.vir_course.specs.Courses.{Course, Follows, Reaches, and_then, gives}
-use Rattle.vir_course.specs.Runs.{BenchView}
+use Rattle.vir_machine.specs.Runs.{BenchView}
 use Rattle.vir_course.specs.Steps.{Asked, reads}
 use Rattle.vir_course.specs.declared.stop.Stop.{Stop}
 use Rattle.vir_course.specs.declared.stop.Stop.TheVariants as stop

@@ -2,8 +2,8 @@
 use Rattle.std.proofs.Common.{◌≡◌, ℕ, ◌<◌, Bool, true, List, [], ◌∷◌, length, Option, Some}
 use Rattle.std.proofs.Common.{Result, Ok, Err, nat_lt, refl, ap, arith, if◌then◌else◌}
 use Rattle.std.proofs.lemmas.Bool.Decides.{nat_tests}
-use Rattle.vir_book.specs.Books.{entries_of, filled, last_term, rule_of, text_limit}
-use Rattle.vir_book.specs.declared.book.TheConstants.{TEXT_LIMIT}
+use Rattle.vir_book.specs.Books.{entries_of, filled, last_term, rule_of, rule_file_limit}
+use Rattle.vir_book.specs.declared.book.TheConstants.{RULE_FILE_LIMIT}
 use Rattle.vir_course.specs.Courses.{Follows}
 use Rattle.vir_course.specs.Steps.{reads}
 use Rattle.vir_course.specs.declared.stop.Stop.{Stop}
@@ -41,11 +41,11 @@ above : (limit n : ℕ) → limit < n → nat_lt limit n ≡ true
 above limit n is = grind (arith, nat_tests)
 
 -- a longer text is too long
-too_long : (bytes : List ℕ) → TEXT_LIMIT < length bytes → rule_of bytes ≡ Err (fault TextTooLong TEXT_LIMIT)
+too_long : (bytes : List ℕ) → RULE_FILE_LIMIT < length bytes → rule_of bytes ≡ Err (fault TextTooLong RULE_FILE_LIMIT)
 too_long bytes long =
-    ap (λ b. (if b then Err (fault TextTooLong text_limit)
+    ap (λ b. (if b then Err (fault TextTooLong rule_file_limit)
     else (tokens_of bytes >>= λ tokens. entries_of (length tokens) bytes [] tokens >>= filled)) >>= last_term)
-    (above TEXT_LIMIT (length bytes) long)
+    (above RULE_FILE_LIMIT (length bytes) long)
 
 module _ (files : Option Files) (name : List ℕ) (rose : Type 0) (selected : Bool) (rest : Option (List ℕ))
     (answer : Result Term Stop)
@@ -61,14 +61,14 @@ module _ (files : Option Files) (name : List ℕ) (rose : Type 0) (selected : Bo
   }
 
   -- it is longer
-  pub reads_too_long : IsLonger files name TEXT_LIMIT → answer ≡ Err (stop.TextRefused (fault TextTooLong TEXT_LIMIT))
+  pub reads_too_long : IsLonger files name RULE_FILE_LIMIT → answer ≡ Err (stop.TextRefused (fault TextTooLong RULE_FILE_LIMIT))
       → ReadsFile rules SeesTree name files rose selected rest answer
   reads_too_long longer is =
-      let (bytes, long, can) = longer_can files name TEXT_LIMIT longer in
+      let (bytes, long, can) = longer_can files name RULE_FILE_LIMIT longer in
       record {
         content = Some bytes;
         can_be = can;
-        follows = rw is (judged_follows name bytes rose (Err (stop.TextRefused (fault TextTooLong TEXT_LIMIT)))
+        follows = rw is (judged_follows name bytes rose (Err (stop.TextRefused (fault TextTooLong RULE_FILE_LIMIT)))
             (too_long bytes long));
         left = left;
       }

@@ -2,7 +2,7 @@
 use Rattle.std.specs.Prelude.{◌≡◌, ◌⊎◌, ℕ, ◌+◌, Bool, List, [], ◌∷◌, None, Some, IsTrue, IsErrOf, Result}
 use Rattle.std.specs.declared.option.Option.{Option}
 use Rattle.vir_course.specs.Courses.{Course, Follows}
-use Rattle.vir_course.specs.Runs.{BenchView}
+use Rattle.vir_machine.specs.Runs.{BenchView}
 use Rattle.vir_course.specs.Steps.{Asked, Step, after_steps, last_read, reads}
 use Rattle.vir_course.specs.declared.stop.Stop.{Stop}
 use Rattle.vir_course.specs.declared.stop.Stop.TheVariants.{ReadFault}

@@ -1,6 +1,6 @@
 // A lone file, as a form of words may name it.
 ghost use Rattle.std.specs.Prelude.{◌≡◌, ◌≤◌, IfOk};
-ghost use Rattle.vir_course.specs.Runs.{BenchView};
+ghost use Rattle.vir_machine.specs.Runs.{BenchView};
 ghost use Rattle.vir_files.specs.Performs.{Performs};
 ghost use Rattle.vir_files.specs.Readings.{profile_at, rule_at};
 ghost use Rattle.vir_outside.specs.Faults.{Rose};

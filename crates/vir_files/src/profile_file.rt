@@ -14,7 +14,7 @@ use vir_profile::SocFile;
 use vir_soc::{SocError, SocReader};
 
 /// The most bytes that a profile may have.
-const SIZE_LIMIT: usize = vir_soc::SIZE_LIMIT as usize;
+const SIZE_LIMIT: usize = vir_soc::PROFILE_SIZE_LIMIT as usize;
 
 /// How many bytes are read at a time.
 const PIECE: usize = 65_536;

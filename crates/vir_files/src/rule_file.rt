@@ -10,7 +10,7 @@ ghost use Rattle.vir_term.specs.Limits.{IsWithinLimits};
 ghost use Rattle.vir_term.specs.Tree.{tree};
 
 use std::alloc::Global;
-use vir_book::{TEXT_LIMIT, read_book};
+use vir_book::{RULE_FILE_LIMIT, read_book};
 use vir_course::Stop;
 use vir_outside::{ReadStop, Shelf, read_whole};
 use vir_read::{TextError, TextFault, TextKind};
@@ -37,12 +37,12 @@ pub fn rule_file<S: Shelf>(alloc: Global, shelf: &mut S, name: &str) -> Result<T
     ensures files { S.files shelf.new ≡ S.files shelf.old }
     ensures later { S.faults shelf.old ≤ S.faults shelf.new }
 {
-    match read_whole(alloc, shelf, name, TEXT_LIMIT) {
+    match read_whole(alloc, shelf, name, RULE_FILE_LIMIT) {
         Ok(text) => judge(alloc, &text),
         Err(ReadStop::Fault) => Err(Stop::ReadFault),
         Err(ReadStop::TooLong) => Err(Stop::TextRefused(TextFault {
             kind: TextKind::TextTooLong,
-            at: TEXT_LIMIT,
+            at: RULE_FILE_LIMIT,
         })),
         Err(ReadStop::Memory) => Err(Stop::Memory),
     }

@@ -1,6 +1,6 @@
 // A rule file, and a profile once that is accepted.
 ghost use Rattle.std.specs.Prelude.{◌≡◌, ◌≤◌, IfOk};
-ghost use Rattle.vir_course.specs.Runs.{BenchView};
+ghost use Rattle.vir_machine.specs.Runs.{BenchView};
 ghost use Rattle.vir_files.specs.Performs.{Performs};
 ghost use Rattle.vir_files.specs.Readings.{rule_and_profile_of};
 ghost use Rattle.vir_files.specs.Values.{SeesRuleProfile};

@@ -1,7 +1,7 @@
 -- What a command answers, by what reading its files and its work come to.
 use Rattle.std.proofs.Common.{◌≡◌, ℕ, Bool, List, [], Option, None, Some, Result, Ok, Err, refl, sym, subst, inr}
 use Rattle.vir_course.specs.Courses.{Course, Follows, and_then}
-use Rattle.vir_course.specs.Runs.{BenchView, served_by}
+use Rattle.vir_machine.specs.Runs.{BenchView, served_by}
 use Rattle.vir_course.specs.Wordings.{Tells, Wording}
 use Rattle.vir_course.specs.Works.{Works}
 use Rattle.vir_course.specs.declared.answer.Answer.{Answer}

@@ -2,7 +2,7 @@
 use Rattle.std.proofs.Common.{◌≡◌, ℕ, Bool, List, Option, None, Some, Result, Ok, Err, refl, sym, ap, subst, ◌∙◌}
 use Rattle.vir_course.specs.Courses.{Course, and_then, gives, go_on}
 use Rattle.vir_course.specs.Reports.{Reported}
-use Rattle.vir_course.specs.Runs.{BenchView, Run, served_by}
+use Rattle.vir_machine.specs.Runs.{BenchView, Run, served_by}
 use Rattle.vir_course.specs.Wordings.{IsWorded, Wording, prints, report_of}
 use Rattle.vir_course.specs.declared.stop.Stop.{Stop}
 use Rattle.vir_files.specs.Readings.{RuleProfile, profile_at, rule_and_profile_of, rule_at, rule_profile}

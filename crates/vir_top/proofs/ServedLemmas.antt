@@ -5,7 +5,7 @@ use Rattle.vir_claims.specs.Claims.{listing_course}
 use Rattle.vir_counting.specs.Counting.{count_course, counting_course, report_course}
 use Rattle.vir_counting.specs.DrillResults.{drill_terms, first_unserved_of}
 use Rattle.vir_course.specs.Courses.{Course, Follows, and_then, gives, go_on}
-use Rattle.vir_course.specs.Runs.{BenchView, Run, served_by}
+use Rattle.vir_machine.specs.Runs.{BenchView, Run, served_by}
 use Rattle.vir_course.specs.Wordings.{Tells, Wording}
 use Rattle.vir_course.specs.declared.answer.Answer.{Answer}
 use Rattle.vir_course.specs.declared.answer.Answer.TheVariants as answer

@@ -3,7 +3,7 @@ use Rattle.std.proofs.Common.{◌≡◌, ◌⊎◌, ℕ, Bool, List, Option, Non
 use Rattle.std.proofs.Common.{inl, inr, arith}
 use Rattle.std.specs.Io.KnownBytes.{Appends}
 use Rattle.vir_course.specs.Courses.{Course, Follows}
-use Rattle.vir_course.specs.Runs.{BenchView, served_by}
+use Rattle.vir_machine.specs.Runs.{BenchView, served_by}
 use Rattle.vir_course.specs.Steps.{Step}
 use Rattle.vir_course.specs.Wordings.{IsWorded, Reply, Tells, Wording, prints, reply_of}
 use Rattle.vir_course.specs.declared.answer.Answer.{Answer}

@@ -1,7 +1,7 @@
 -- What a call of the program does.
 use Rattle.std.specs.Prelude.{◌≡◌, ◌⊎◌, ℕ, Bool, List, None, Some, Result, Err}
 use Rattle.std.specs.declared.option.Option.{Option}
-use Rattle.vir_course.specs.Runs.{BenchView, served_by}
+use Rattle.vir_machine.specs.Runs.{BenchView, served_by}
 use Rattle.vir_course.specs.Wordings.{Tells}
 use Rattle.vir_course.specs.declared.answer.Answer.{Answer}
 use Rattle.vir_course.specs.declared.stop.Stop.{Stop}

@@ -1,6 +1,6 @@
 // What the words ask for, done with the files of the shelf and on the bench.
 ghost use Rattle.std.specs.Prelude.{◌≡◌, ◌≤◌};
-ghost use Rattle.vir_course.specs.Runs.{BenchView, seen, served_by};
+ghost use Rattle.vir_machine.specs.Runs.{BenchView, seen, served_by};
 ghost use Rattle.vir_course.specs.Wordings.{Tells};
 ghost use Rattle.vir_files.specs.Performs.{Performs};
 ghost use Rattle.vir_outside.specs.Faults.{Rose};

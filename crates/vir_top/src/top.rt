@@ -1,6 +1,6 @@
 // The whole program over what is handed in: the top call, its headline first.
 ghost use Rattle.std.specs.Prelude.{◌≡◌, ◌≤◌, ℕ, List, Some};
-ghost use Rattle.vir_course.specs.Runs.{seen, served_by};
+ghost use Rattle.vir_machine.specs.Runs.{seen, served_by};
 ghost use Rattle.vir_outside.specs.Faults.{Rose};
 ghost use Rattle.vir_outside.specs.Shelf.{Files};
 ghost use Rattle.vir_top.specs.Calls.{AnswersWords, Calls};

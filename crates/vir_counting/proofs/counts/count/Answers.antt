@@ -1,7 +1,7 @@
 use Rattle.std.proofs.Common.{Err, [], ◌∷◌, ap, refl, sym, ◌∙◌}
 use Rattle.std.proofs.lemmas.Result.{err_from_is_err_and}
 use Rattle.vir_course.specs.Reports.{count_text}
-use Rattle.vir_course.specs.Runs.{Run}
+use Rattle.vir_machine.specs.Runs.{Run}
 use Rattle.vir_course.specs.Wordings.{exactly}
 use Rattle.vir_course.specs.declared.answer.Answer.TheVariants.{Text}
 use Rattle.vir_term.specs.Tree.{tree}

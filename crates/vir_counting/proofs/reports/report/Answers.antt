@@ -1,6 +1,6 @@
 use Rattle.std.proofs.Common.{Err, [], ◌∷◌, ap, refl, sym, ◌∙◌}
 use Rattle.std.proofs.lemmas.Result.{err_from_is_err_and}
-use Rattle.vir_course.specs.Runs.{Run}
+use Rattle.vir_machine.specs.Runs.{Run}
 use Rattle.vir_course.specs.Wordings.{report_of}
 use Rattle.vir_course.specs.declared.answer.Answer.TheVariants.{Text}
 use Rattle.vir_term.specs.Tree.{tree}

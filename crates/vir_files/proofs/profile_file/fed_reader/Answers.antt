@@ -3,7 +3,7 @@ use Rattle.std.proofs.lemmas.Grind.{common_steps}
 use Rattle.std.proofs.lemmas.List.{take-append-le}
 use Rattle.vir_soc.specs.Reader.Answers.{Shows}
 use Rattle.vir_soc.specs.Soc.{settled}
-use Rattle.vir_soc.specs.declared.soc_reader.TheConstants.{SIZE_LIMIT}
+use Rattle.vir_soc.specs.declared.soc_reader.TheConstants.{PROFILE_SIZE_LIMIT}
 use Rattle.vir_soc.specs.Reader.Stands.{stands}
 use Rattle.vir_outside.proofs.Rests.{consumes_more, taken_more}
 use Rattle.vir_files.proofs.FedLemmas.{shown_of_rest, settled-within, length-piece}
@@ -23,7 +23,7 @@ returns-in-Err-clause-stops g c =
 pub returns-in-Err-clause-taken : goal.returns-in-Err-clause-taken
 returns-in-Err-clause-taken g c =
     let so_far = c.loop-taken.invariant in
-    taken_more _ _ _ so_far.fed c.read.new.buf c.in-Ok.count SIZE_LIMIT so_far.parts c.in-Ok.ensures.bytes.0
+    taken_more _ _ _ so_far.fed c.read.new.buf c.in-Ok.count PROFILE_SIZE_LIMIT so_far.parts c.in-Ok.ensures.bytes.0
     (omega arith) (grind (arith, common_steps))
 
 pub loop-taken-preserved : goal.loop-taken-preserved
@@ -38,7 +38,7 @@ loop-taken-preserved g c =
     c.in-Ok.ensures.bound.0 in
     let fine : settled (so_far.fed ++ take n buf) ≡ None = ap (λ (p : List ℕ). settled (so_far.fed ++ p)) (sym fed)
     ∙ after.1 in
-    let size : length (so_far.fed ++ take n buf) ≤ SIZE_LIMIT = settled-within (so_far.fed ++ take n buf) fine in
+    let size : length (so_far.fed ++ take n buf) ≤ PROFILE_SIZE_LIMIT = settled-within (so_far.fed ++ take n buf) fine in
     record {
       same_files = c.in-Ok.ensures.files ∙ so_far.same_files;
       is_selected = c.in-Ok.ensures.selected;

@@ -1,5 +1,5 @@
 use Rattle.std.proofs.Common.{◌+◌, ◌-◌}
-use Rattle.vir_soc.specs.declared.soc_reader.TheConstants.{SIZE_LIMIT}
+use Rattle.vir_soc.specs.declared.soc_reader.TheConstants.{PROFILE_SIZE_LIMIT}
 use Rattle.vir_files.proofs.FedLemmas.{IsFeeding}
 use Rattle.vir_files.proofs.profile_file.fed_reader.Given as goal
 
@@ -10,4 +10,4 @@ invariant-loop-taken g l =
     (s.faults l.shelf) (s.rest l.shelf) l.taken l.reader
 
 abbrev pub decreases-loop-taken : goal.decreases-loop-taken
-decreases-loop-taken g l = SIZE_LIMIT + 1 - l.taken
+decreases-loop-taken g l = PROFILE_SIZE_LIMIT + 1 - l.taken
