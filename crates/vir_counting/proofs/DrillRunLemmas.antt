@@ -16,7 +16,8 @@ use Rattle.vir_term.specs.declared.term.Term.{Term}
 use Rattle.vir_term.specs.Kinds.{kind_of}
 use Rattle.vir_term.specs.Limits.{IsWithinLimits}
 use Rattle.vir_term.specs.Tree.{Tree, tree, leaf, rev, seq, par, loop}
-use Rattle.vir_counting.specs.DrillResults.{AreServed, AreWithinLimits, MadeFirst, drill_terms, drill_text, elected_lines}
+use Rattle.vir_counting.specs.DrillResults.{AreServed, AreWithinLimits, MadeFirst, drill_terms, drill_text}
+use Rattle.vir_counting.specs.DrillResults.{elected_lines}
 use Rattle.vir_counting.specs.DrillResults.{first_unserved_of, runs_on, size_line}
 use Rattle.vir_machine.specs.Runs.{BenchView, Run, after_run, served_by}
 use Rattle.vir_course.specs.Steps.{after_steps, steps_of_runs}

@@ -3,7 +3,8 @@ ghost use Rattle.std.specs.Prelude.{◌≡◌, ◌≤◌, ◌++◌, ◌∷◌, [
 ghost use Rattle.std.specs.Option.{option_copied};
 ghost use Rattle.vir_counting.specs.Counting.{drill_course};
 ghost use Rattle.vir_counting.specs.Drill.{drill_votes};
-ghost use Rattle.vir_counting.specs.DrillResults.{AreServed, AreWithinLimits, MadeFirst, elected_lines, first_unserved_of};
+ghost use Rattle.vir_counting.specs.DrillResults.{AreServed, AreWithinLimits, MadeFirst, elected_lines};
+ghost use Rattle.vir_counting.specs.DrillResults.{first_unserved_of};
 ghost use Rattle.vir_counting.specs.DrillResults.{runs_on, size_line};
 ghost use Rattle.vir_machine.specs.Runs.{seen, served_by};
 ghost use Rattle.vir_course.specs.Steps.{after_steps, steps_of_runs};
@@ -68,7 +69,8 @@ fn push_results(
         (map tree terms.now)) }
     ensures ran { OnOk result (seen kinds made bench.new
         ≡ after_steps (steps_of_runs (runs_on election.now.profile (map tree terms.now))) (seen kinds made bench.old)) }
-    ensures began { OnErr result (MadeFirst (runs_on election.now.profile (map tree terms.now)) (seen kinds made bench.old)
+    ensures began { OnErr result (MadeFirst (runs_on election.now.profile (map tree terms.now))
+        (seen kinds made bench.old)
         (seen kinds made bench.new)) }
 {
     match terms {
@@ -112,7 +114,8 @@ fn text_of(
     ensures text { IfOk result (λ text. text.items ≡ size_line profile ++ elected_lines profile (map tree terms.now)) }
     ensures ran { OnOk result (seen kinds made bench.new
         ≡ after_steps (steps_of_runs (runs_on profile (map tree terms.now))) (seen kinds made bench.old)) }
-    ensures began { OnErr result (MadeFirst (runs_on profile (map tree terms.now)) (seen kinds made bench.old) (seen kinds made bench.new)) }
+    ensures began { OnErr result (MadeFirst (runs_on profile (map tree terms.now)) (seen kinds made bench.old)
+        (seen kinds made bench.new)) }
 {
     let mut text = Vec::new(alloc);
     push_size(&mut text, &profile)?;

@@ -55,7 +55,8 @@ never_none A (Err g) f none = cc
 
 -- bytes that settle no fault are within the size limit
 pub settled-within : (bytes : List ℕ) → settled bytes ≡ None → length bytes ≤ PROFILE_SIZE_LIMIT
-settled-within bytes none = elim (nat_le (length bytes) PROFILE_SIZE_LIMIT) as (λ b. nat_le (length bytes) PROFILE_SIZE_LIMIT ≡ b
+settled-within bytes none = elim (nat_le (length bytes) PROFILE_SIZE_LIMIT) as
+    (λ b. nat_le (length bytes) PROFILE_SIZE_LIMIT ≡ b
     → length bytes ≤ PROFILE_SIZE_LIMIT) [
       | true ↦ λ e. grind (arith, nat_tests)
       | false ↦ λ e. absurd (never_none Content (ended_content (take PROFILE_SIZE_LIMIT bytes)) _

@@ -61,7 +61,8 @@ module _ (files : Option Files) (name : List ℕ) (rose : Type 0) (selected : Bo
   }
 
   -- it is longer
-  pub reads_too_long : IsLonger files name RULE_FILE_LIMIT → answer ≡ Err (stop.TextRefused (fault TextTooLong RULE_FILE_LIMIT))
+  pub reads_too_long : IsLonger files name RULE_FILE_LIMIT → answer
+      ≡ Err (stop.TextRefused (fault TextTooLong RULE_FILE_LIMIT))
       → ReadsFile rules SeesTree name files rose selected rest answer
   reads_too_long longer is =
       let (bytes, long, can) = longer_can files name RULE_FILE_LIMIT longer in

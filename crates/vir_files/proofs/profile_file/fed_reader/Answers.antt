@@ -38,7 +38,8 @@ loop-taken-preserved g c =
     c.in-Ok.ensures.bound.0 in
     let fine : settled (so_far.fed ++ take n buf) ≡ None = ap (λ (p : List ℕ). settled (so_far.fed ++ p)) (sym fed)
     ∙ after.1 in
-    let size : length (so_far.fed ++ take n buf) ≤ PROFILE_SIZE_LIMIT = settled-within (so_far.fed ++ take n buf) fine in
+    let size : length (so_far.fed ++ take n buf) ≤ PROFILE_SIZE_LIMIT = settled-within (so_far.fed ++ take n buf) fine
+    in
     record {
       same_files = c.in-Ok.ensures.files ∙ so_far.same_files;
       is_selected = c.in-Ok.ensures.selected;
