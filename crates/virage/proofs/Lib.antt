@@ -1,12 +1,1 @@
-pub mod FedLemmas
-pub mod WritesLemmas
-pub mod LeaveLemmas
-pub mod DeliverLemmas
-pub mod RunLemmas
-pub mod RunFateLemmas
-pub mod DrillLemmas
-pub mod WordLemmas
-pub mod DrillRunLemmas
-pub mod UsageLemmas
-pub mod ReportLemmas
-pub mod HeadlineLemmas
+pub mod FullBenchLemmas

@@ -1,44 +1,79 @@
 // The top call, on a bench that serves every module.
-ghost use Rattle.std.specs.Prelude.{◌≡◌, OnErr};
+ghost use Rattle.std.specs.Prelude.{◌≡◌, ◌≢◌, ◌≤◌, ℕ, List, None, Some, IfOk, OnErr, OnOk};
+ghost use Rattle.vir_machine.specs.Runs.{BenchView};
+ghost use Rattle.vir_machine.specs.Uses.{first_unserved};
+ghost use Rattle.vir_outside.specs.Faults.{Rose};
+ghost use Rattle.vir_outside.specs.Shelf.{Files};
+ghost use Rattle.vir_term.specs.Tree.{Tree};
+ghost use Rattle.vir_top.specs.Calls.{AnswersWords, Calls};
+ghost use Rattle.vir_top.specs.Command.{Command, command_in, report};
+ghost use Rattle.vir_top.specs.CommandCourses.{command_course};
+ghost use Rattle.vir_top.specs.Delivery.{Delivers, sink};
+ghost use Rattle.vir_top.specs.Headline.{ReportPrinted};
+ghost use Rattle.vir_top.specs.Printed.{IsDue, Printed, told_contents};
+ghost use Rattle.virage.specs.FullBench.{full_bench, full_kinds};
 
-use crate::top::virage;
 use std::alloc::{AllocError, Global};
 use vir_counter::{EliminatorCounter, FixedCounter, OrderCounter, PluralityCounter};
 use vir_machine::Bench;
 use vir_outside::{Shelf, Sink};
 use vir_score::KeptScore;
 use vir_term::Score;
-
-// All scores: the bench has a counter of the eliminators of each.
-const SCORES: [Score; 5] = [
-    Score::Plurality,
-    Score::Borda,
-    Score::Copeland,
-    Score::Minimax,
-    Score::Condorcet,
-];
+use vir_top::virage;
 
 /// Answers the status of `virage` on a bench of eight counters, which is made for this call: one of
 /// the modules that elect or defer all, one of those of a fixed order, one of plurality, and one of the
 /// eliminators of each score. Where memory for them is wanting, nothing is done.
-pub fn called_on_full_bench<S: Shelf, O: Sink, E: Sink>(
+pub fn call_on_full_bench<S: Shelf, O: Sink, E: Sink>(
     alloc: Global,
     words: &[String],
     shelf: &mut S,
     out: &mut O,
     err: &mut E,
 ) -> Result<u8, AllocError>
-    ensures shelf { OnErr result (shelf.new ≡ shelf.old) }
-    ensures out { OnErr result (out.new ≡ out.old) }
-    ensures err { OnErr result (err.new ≡ err.old) }
+    // The headline, as of `virage`.
+    ensures reports { IfOk result (λ status. (rule profile : List ℕ)
+        → command_in words.now ≡ Some (report rule profile) → status ≡ 0
+        → ReportPrinted (S.files shelf.old) rule profile (O.written out.old) (O.written out.new)) }
+    // The bench serves every module, and so none is told to have no counter, whatever the shelf tells.
+    ensures serves_all { OnOk result ((term : Tree) → first_unserved full_kinds term ≡ None) }
+    ensures never_unserved { IfOk result (λ status. status ≢ 8) }
+    // What each command prints with status 0, and the status that is due of told files.
+    ensures printed { IfOk result (λ status. (command : Command) → command_in words.now ≡ Some command → status ≡ 0
+        → Printed (command_course full_kinds command) (S.files shelf.old) (O.written out.old) (O.written out.new)) }
+    ensures due { IfOk result (λ status. (command : Command) (all : Files)
+        → command_in words.now ≡ Some command → S.files shelf.old ≡ Some all
+        → IsDue (command_course full_kinds command (told_contents all)).end status
+        (Rose (S.faults shelf.old) (S.faults shelf.new)) (Rose (O.faults out.old) (O.faults out.new))) }
+    // The whole, on a bench of exactly these counters, none of which was called.
+    ensures calls { IfOk result (λ status. (left : BenchView) × Calls
+        (AnswersWords (command_in words.now)
+        (S.files shelf.old) (Rose (S.faults shelf.old) (S.faults shelf.new)) (shelf.new ≡ shelf.old)
+        full_bench left (S.selected shelf.new) (S.rest shelf.new))
+        (λ answer. Delivers answer status
+        (sink (O.faults out.old) (O.written out.old)) (sink (O.faults out.new) (O.written out.new))
+        (sink (E.faults err.old) (E.written err.old)) (sink (E.faults err.new) (E.written err.new))
+        (out.new ≡ out.old) (err.new ≡ err.old))) }
+    // Where no bench can be made, nothing is done.
+    ensures undone { OnErr result ((shelf.new ≡ shelf.old) × (out.new ≡ out.old) × (err.new ≡ err.old)) }
+    // The files stay, and no count falls.
+    ensures files { S.files shelf.new ≡ S.files shelf.old }
+    ensures later { (S.faults shelf.old ≤ S.faults shelf.new) × (O.faults out.old ≤ O.faults out.new)
+        × (E.faults err.old ≤ E.faults err.new) }
 {
     let mut bench = Bench::new(alloc);
     bench.push(Box::new(alloc, FixedCounter::new())?)?;
     bench.push(Box::new(alloc, OrderCounter::new())?)?;
     bench.push(Box::new(alloc, PluralityCounter::new())?)?;
-    for score in SCORES {
-        let scoring = KeptScore::new(score);
-        bench.push(Box::new(alloc, EliminatorCounter::new(scoring))?)?;
-    }
+    let plurality = EliminatorCounter::new(KeptScore::new(Score::Plurality));
+    bench.push(Box::new(alloc, plurality)?)?;
+    let borda = EliminatorCounter::new(KeptScore::new(Score::Borda));
+    bench.push(Box::new(alloc, borda)?)?;
+    let copeland = EliminatorCounter::new(KeptScore::new(Score::Copeland));
+    bench.push(Box::new(alloc, copeland)?)?;
+    let minimax = EliminatorCounter::new(KeptScore::new(Score::Minimax));
+    bench.push(Box::new(alloc, minimax)?)?;
+    let condorcet = EliminatorCounter::new(KeptScore::new(Score::Condorcet));
+    bench.push(Box::new(alloc, condorcet)?)?;
     Ok(virage(alloc, words, shelf, out, err, &mut bench))
 }

@@ -1,8 +1,0 @@
-use Rattle.std.proofs.Common.{take}
-use Rattle.vir_term.specs.Tree.{tree}
-use Rattle.virage.specs.Reports.{TellsOf}
-use Rattle.virage.proofs.report.push_findings.Given as goal
-
--- it is told of the first properties
-abbrev pub invariant-loop-prop : goal.invariant-loop-prop
-invariant-loop-prop l = TellsOf (tree l.rule) (take l.prop-index l.prop-items) l.fn.text.items l.text.items

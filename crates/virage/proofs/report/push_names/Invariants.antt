@@ -1,8 +1,0 @@
-use Rattle.std.proofs.Common.{◌≡◌, ◌++◌, take}
-use Rattle.std.specs.List.{flat_map}
-use Rattle.virage.specs.Reports.{name_line}
-use Rattle.virage.proofs.report.push_names.Given as goal
-
--- the lines of the first names are written
-abbrev pub invariant-loop-name : goal.invariant-loop-name
-invariant-loop-name l = l.text.items ≡ l.fn.text.items ++ flat_map name_line (take l.name-index l.names)
