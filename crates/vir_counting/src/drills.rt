@@ -4,8 +4,7 @@ ghost use Rattle.std.specs.Option.{option_copied};
 ghost use Rattle.vir_counting.specs.Counting.{drill_course};
 ghost use Rattle.vir_counting.specs.Drill.{drill_votes};
 ghost use Rattle.vir_counting.specs.DrillResults.{AreServed, AreWithinLimits, MadeFirst, elected_lines};
-ghost use Rattle.vir_counting.specs.DrillResults.{first_unserved_of};
-ghost use Rattle.vir_counting.specs.DrillResults.{runs_on, size_line};
+ghost use Rattle.vir_counting.specs.DrillResults.{first_unserved_of, runs_on, size_line};
 ghost use Rattle.vir_machine.specs.Runs.{seen, served_by};
 ghost use Rattle.vir_course.specs.Steps.{after_steps, steps_of_runs};
 ghost use Rattle.vir_course.specs.Wordings.{Tells};
@@ -70,8 +69,7 @@ fn push_results(
     ensures ran { OnOk result (seen kinds made bench.new
         ≡ after_steps (steps_of_runs (runs_on election.now.profile (map tree terms.now))) (seen kinds made bench.old)) }
     ensures began { OnErr result (MadeFirst (runs_on election.now.profile (map tree terms.now))
-        (seen kinds made bench.old)
-        (seen kinds made bench.new)) }
+        (seen kinds made bench.old) (seen kinds made bench.new)) }
 {
     match terms {
         [] => Ok(()),

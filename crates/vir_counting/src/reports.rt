@@ -168,7 +168,8 @@ fn text_of(
     ensures ran { OnOk result (seen kinds made bench.new
         ≡ after_run (record { term = tree rule.now; votes = file.profile }) (seen kinds made bench.old)) }
     ensures began { OnErr result ((seen kinds made bench.new ≡ seen kinds made bench.old)
-        ⊎ (seen kinds made bench.new ≡ after_run (record { term = tree rule.now; votes = file.profile }) (seen kinds made bench.old))) }
+        ⊎ (seen kinds made bench.new
+        ≡ after_run (record { term = tree rule.now; votes = file.profile }) (seen kinds made bench.old))) }
 {
     let mut text = Vec::new(alloc);
     push_head(alloc, &mut text, rule, &file)?;

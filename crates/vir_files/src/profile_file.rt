@@ -44,8 +44,8 @@ fn room_after(taken: usize) -> usize
 fn fed_reader<S: Shelf>(alloc: Global, shelf: &mut S) -> Result<SocReader, Stop>
     requires { IsTrue (S.selected shelf.old) }
     ensures fed { IfOk result (λ reader. StandsForRest reader (S.rest shelf.old)) }
-    ensures stops { IfErr result (λ stop. AnswersRest (S.rest shelf.old) (Rose (S.faults shelf.old) (S.faults shelf.new))
-        (Err stop)) }
+    ensures stops { IfErr result (λ stop. AnswersRest (S.rest shelf.old)
+        (Rose (S.faults shelf.old) (S.faults shelf.new)) (Err stop)) }
     ensures taken { (bytes : List ℕ) × (length bytes ≤ SIZE_LIMIT + 1)
         × Consumes (S.rest shelf.old) (S.rest shelf.new) bytes }
     ensures selected { IsTrue (S.selected shelf.new) }
