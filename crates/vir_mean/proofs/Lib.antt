@@ -2,6 +2,8 @@ pub mod BordaAverage
 pub mod CutLoops
 pub mod EliminatedSplits
 pub mod FoundMembers
+pub mod Leaders
+pub mod LiftedEliminations
 pub mod LiftedOrders
 pub mod LiftedScores
 pub mod LiftedWeights

@@ -1,7 +1,5 @@
 pub mod ElectionLines
 pub mod GainLemmas
-pub mod Leaders
-pub mod LiftedEliminations
 pub mod LiftedPlaces
 pub mod NamedScores
 pub mod ServedSplits

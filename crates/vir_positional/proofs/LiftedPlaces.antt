@@ -17,7 +17,7 @@ use Rattle.vir_mean.proofs.MemberCounts.{often, lists_of}
 use Rattle.vir_positional.specs.declared.weight_form.WeightForm.{WeightForm}
 use Rattle.vir_positional.specs.Positional.{weighed, positional}
 use Rattle.vir_positional.specs.Weights.{weight_of, IsForm}
-use Rattle.vir_positional.proofs.Leaders.{IsLift}
+use Rattle.vir_mean.proofs.Leaders.{IsLift}
 use Rattle.vir_positional.proofs.WeighedLines.{weighed-cons}
 use Rattle.vir_positional.proofs.WeightLaws.{weight-falls}
 

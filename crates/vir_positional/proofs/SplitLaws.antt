@@ -13,7 +13,7 @@ use Rattle.vir_mean.specs.Properties.{Holds}
 use Rattle.vir_positional.specs.declared.weight_form.WeightForm.{WeightForm}
 use Rattle.vir_positional.specs.Positional.{positional, positional_split}
 use Rattle.vir_positional.specs.Weights.{IsForm}
-use Rattle.vir_positional.proofs.LiftedEliminations.{AllPass, goes_no_sooner, all_go_still}
+use Rattle.vir_mean.proofs.LiftedEliminations.{AllPass, goes_no_sooner, all_go_still}
 use Rattle.vir_positional.proofs.LiftedPlaces.{positional_lift}
 
 -- the split, by whether all are to go

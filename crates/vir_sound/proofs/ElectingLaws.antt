@@ -21,7 +21,7 @@ use Rattle.vir_rules.specs.Families.{is_of}
 use Rattle.vir_sound.specs.Truth.{IsProperLeaf}
 use Rattle.vir_sound.proofs.MeaningLemmas.{same_at, none_at, empty_of_not, union_none, left_none, right_none}
 use Rattle.vir_sound.proofs.MeaningLemmas.{all_rejected, elected-eliminated, deferred_profile, by_turns, member_of}
-use Rattle.vir_sound.proofs.Leaders.{leader_of, test_of_leads}
+use Rattle.vir_mean.proofs.Leaders.{leader_of, test_of_leads}
 
 -- ---- nobody is elected
 pub ne_leaf : (l : Leaf) → IsProperLeaf l → is_of ElectingNobody (kind_of l) ≡ true → Holds Ne (leaf_mean l)

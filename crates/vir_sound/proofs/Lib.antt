@@ -2,7 +2,6 @@ pub mod Shapes
 pub mod SoundRows
 pub mod FirstMembers
 pub mod MeaningLemmas
-pub mod Leaders
 pub mod ElectingLaws
 pub mod KeepingLaws
 pub mod DisjointLaws
@@ -24,7 +23,6 @@ pub mod LiftRows
 pub mod WinnerRows
 pub mod ProperTerms
 pub mod LiftLeaves
-pub mod LiftedEliminations
 pub mod Averages
 pub mod SparedMembers
 pub mod WinnerLeaves

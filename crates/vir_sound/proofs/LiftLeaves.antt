@@ -30,9 +30,9 @@ use Rattle.vir_mean.proofs.MemberCounts.{in_items}
 use Rattle.vir_mean.proofs.ScoreComparisons.{list_all-each}
 use Rattle.vir_rules.specs.declared.row.Family.TheVariants.{ElectingSome, Unscored, Leading, Eliminating}
 use Rattle.vir_rules.specs.Families.{is_leading, is_of}
-use Rattle.vir_sound.proofs.Leaders.{Leads, leads_of_test, test_of_leads, leader_of, leaders, leader_leads, IsLift}
-use Rattle.vir_sound.proofs.Leaders.{leaders_stay_or_become}
-use Rattle.vir_sound.proofs.LiftedEliminations.{AllPass, goes_no_sooner, all_go_still}
+use Rattle.vir_mean.proofs.Leaders.{Leads, leads_of_test, test_of_leads, leader_of, leaders, leader_leads, IsLift}
+use Rattle.vir_mean.proofs.Leaders.{leaders_stay_or_become}
+use Rattle.vir_mean.proofs.LiftedEliminations.{AllPass, goes_no_sooner, all_go_still}
 
 -- ---- whom an eliminator defers
 -- the split, by whether all are to go

@@ -40,7 +40,7 @@ use Rattle.vir_rules.specs.Table.{rule}
 use Rattle.vir_sound.specs.Truth.{IsSoundRow}
 use Rattle.vir_sound.proofs.ElectingLaws.{ne_leaf}
 use Rattle.vir_sound.proofs.KeepingLaws.{nb_leaf}
-use Rattle.vir_sound.proofs.Leaders.{leaders}
+use Rattle.vir_mean.proofs.Leaders.{leaders}
 use Rattle.vir_sound.proofs.LiftLeaves.{dli_leaf, eliminated-deferred, max-deferred}
 use Rattle.vir_sound.proofs.WinnerLeaves.{cprog_leaf}
 use Rattle.vir_sound.proofs.SmallElections.{any_of_three, any_of_two, by_number, election, goes_of_three}

@@ -11,9 +11,9 @@ use Rattle.vir_mean.specs.declared.elimination.Elimination.TheVariants.{Max, Min
 use Rattle.vir_mean.specs.Eliminators.{sum, sum_of, is_least, scaled, goes}
 use Rattle.vir_mean.specs.Listings.{listed, total}
 use Rattle.vir_mean.proofs.MemberCounts.{often, often-listed, at_head, total_same, len_within}
-use Rattle.vir_sound.proofs.Leaders.{list_any-none, list_any-each, itself, not_less, test_not_less, less_of, test_less}
-use Rattle.vir_sound.proofs.Leaders.{Leads, leads_of_test, test_of_leads, Leader, leader_of, other_than, IsLift}
-use Rattle.vir_sound.proofs.Leaders.{leads_still}
+use Rattle.vir_mean.proofs.Leaders.{list_any-none, list_any-each, itself, not_less, test_not_less, less_of, test_less}
+use Rattle.vir_mean.proofs.Leaders.{Leads, leads_of_test, test_of_leads, Leader, leader_of, other_than, IsLift}
+use Rattle.vir_mean.proofs.Leaders.{leads_still}
 
 -- ---- sums of whole numbers
 abbrev sums : (ℕ → ℤ) → List ℕ → ℤ
