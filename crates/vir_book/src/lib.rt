@@ -1,4 +1,4 @@
-//! Rule files: the named terms of a text.
+//! Books: voting rules by their names, as a rule file defines them.
 //!
 //! A rule file is a list of definitions `name = term;`, each of which may use the names before it. This
 //! layer's one contract is that of `read_book`: what it gives is what the language says of the text

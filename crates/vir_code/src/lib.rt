@@ -1,4 +1,4 @@
-//! Counting code: what a term is compiled to, for a machine with two stacks and jumps.
+//! Code: the instructions that a voting rule is compiled to, for a machine with two stacks and jumps.
 //!
 //! This layer knows the instructions, which lists of them are the code of a term, and how code is
 //! written; what the machine does at each is the business of `vir_compile`. Its one contract: a `Code`

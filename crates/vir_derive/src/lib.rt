@@ -1,4 +1,5 @@
-//! First derivations, which one the rules give of a judgement or why they give none, and signatures of terms.
+//! Deriving: the first derivation that the rules give of a judgement, or why they give none; and the signatures of
+//! terms.
 //!
 //! The contract of this layer: `derive` gives the first derivation of a judgement just where the
 //! judgement is derivable, and otherwise for each rule that fits its first premise that can't be derived

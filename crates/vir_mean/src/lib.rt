@@ -1,4 +1,4 @@
-//! What a rule means: the alternatives that it elects, rejects and defers, on any profile.
+//! Meaning: which alternatives a voting rule elects, rejects and defers, on any profile.
 //!
 //! The definitions are in `specs/`: scores (`Scores.antt`), eliminators and fixed orders
 //! (`Eliminators.antt`, `FixedOrders.antt`), each module as a named line (`Modules.antt`), compositions

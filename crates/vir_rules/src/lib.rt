@@ -1,4 +1,4 @@
-//! The rules by which properties of a voting rule are derived from those of its parts.
+//! Rules of inference: how properties of a voting rule are derived from those of its parts.
 //!
 //! Each row of a table says that a term of some form has a property, or that two terms are disjoint, where
 //! its parts have certain properties. This layer reads that table, and knows derivations and reasons as

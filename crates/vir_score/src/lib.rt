@@ -1,4 +1,5 @@
-//! Scores of the alternatives of an election, and elimination by a score that is handed in.
+//! Scores: how many points each alternative has in an election, by plurality, Borda, Copeland, minimax or the
+//! Condorcet winner; and elimination by a score that is handed in.
 //!
 //! Each function here speaks of a domain, a set of the election's alternatives, and of the election's
 //! ballots restricted to it. The contract of this layer: the five functions and every `Scoring` give
