@@ -10,10 +10,11 @@ use Rattle.vir_profile.specs.Profiles.{Votes}
 use Rattle.vir_profile.specs.SocFiles.{File}
 use Rattle.vir_rules.specs.Claims.{of}
 use Rattle.vir_term.specs.declared.prop.Prop.{Prop}
+use Rattle.vir_term.specs.Props.{all_props}
 use Rattle.vir_term.specs.Tree.{Tree}
 use Rattle.vir_course.specs.Proved.{IsHeld, IsUnderived}
 use Rattle.vir_course.specs.Reports.{Finding, Found, Reported, count_text, finding_text, found_text, head_text, holds}
-use Rattle.vir_course.specs.Reports.{name_line, profile_lines, reported_properties, rule_line, underived}
+use Rattle.vir_course.specs.Reports.{name_line, profile_lines, rule_line, underived}
 use Rattle.vir_rules.specs.Reasons.{Reason}
 use Rattle.vir_rules.specs.RuleTrees.{RuleTree}
 use Rattle.vir_term.specs.Limits.{IsInRange}
@@ -87,7 +88,7 @@ tells_next term other props i default old mid new same within so_far next =
 
 -- behind its head and its count, what is told of each property makes a report
 pub report_of_parts : (term : Tree) (file : File) (start head counted text : List ℕ) → start ≡ [] → head ≡ start
-    ++ head_text term file → counted ≡ head ++ count_text term file.profile → TellsOf term reported_properties counted
+    ++ head_text term file → counted ≡ head ++ count_text term file.profile → TellsOf term all_props counted
     text → IsReport term file text
 report_of_parts term file start head counted text none one two tells =
     record {

@@ -1,11 +1,12 @@
 -- What is told of properties, one after another, while a report is made.
 use Rattle.std.specs.Prelude.{◌≡◌, ℕ, List, ◌++◌, All, map}
-use Rattle.vir_course.specs.Reports.{Finding, Found, holds, underived, found_text, report_text, reported_properties}
+use Rattle.vir_course.specs.Reports.{Finding, Found, holds, underived, found_text, report_text}
 use Rattle.vir_profile.specs.SocFiles.{File}
 use Rattle.vir_rules.specs.Claims.{Claim, of}
 use Rattle.vir_rules.specs.Derivations.{Derivable, IsFirst}
 use Rattle.vir_rules.specs.Reasons.{AreReasons}
 use Rattle.vir_term.specs.declared.prop.Prop.{Prop}
+use Rattle.vir_term.specs.Props.{all_props}
 use Rattle.vir_term.specs.Tree.{Tree}
 
 -- What is found of a claim is so: the first derivation, or, where there is none, each rule that fits with its first
@@ -28,6 +29,6 @@ pub record TellsOf (term : Tree) (props : List Prop) (old new : List ℕ) : Type
 -- The text is the report of a rule on a profile: of each property, in their order, it tells what is so.
 pub record IsReport (term : Tree) (file : File) (text : List ℕ) : Type 0 where
   pub found : List Found
-  pub in_order : map (λ (f : Found). f.prop) found ≡ reported_properties
+  pub in_order : map (λ (f : Found). f.prop) found ≡ all_props
   pub are_so : All (IsSo term) found
   pub text_is : text ≡ report_text term file found

@@ -5,9 +5,10 @@ ghost use Rattle.vir_machine.specs.Uses.{all_served};
 ghost use Rattle.vir_rules.specs.Reasons.{reasons_seen};
 ghost use Rattle.vir_rules.specs.RuleTrees.{rule_tree};
 ghost use Rattle.vir_term.specs.Limits.{IsWithinLimits};
+ghost use Rattle.vir_term.specs.Props.{all_props};
 ghost use Rattle.vir_term.specs.Tree.{tree};
 ghost use Rattle.vir_course.specs.Reports.{finding_text, head_text, holds, name_line, profile_lines};
-ghost use Rattle.vir_course.specs.Reports.{reported_properties, rule_line, underived};
+ghost use Rattle.vir_course.specs.Reports.{rule_line, underived};
 ghost use Rattle.vir_course.specs.Wordings.{Tells};
 ghost use Rattle.vir_course.specs.Works.{Works};
 ghost use Rattle.vir_counting.specs.Findings.{IsReport, TellsOf};
@@ -21,31 +22,9 @@ use vir_course::{Answer, LeafText, Stop};
 use vir_derive::Derivations;
 use vir_machine::Bench;
 use vir_profile::{Name, Profile, SocFile};
-use vir_report::{push_derivation, push_number, push_prop, push_result, push_why};
+use vir_report::{push_derivation, push_prop, push_result, push_why};
 use vir_rules::{Derivation, Prop, Why};
-use vir_term::Term;
-
-/// The properties that are reported, in their order.
-const REPORTED: [Prop; 18] = [
-    Prop::Ne,
-    Prop::Ea,
-    Prop::El,
-    Prop::Defers(1),
-    Prop::Rejects(1),
-    Prop::Elim(1),
-    Prop::Nb,
-    Prop::Decr,
-    Prop::Dli,
-    Prop::Imono,
-    Prop::Dimono,
-    Prop::Dmono,
-    Prop::Mono,
-    Prop::Cc,
-    Prop::Dcc,
-    Prop::Cprog,
-    Prop::Ccomp,
-    Prop::Neut,
-];
+use vir_term::{Term, push_number, push_term};
 
 // Appends the line of a name.
 fn push_name(text: &mut Vec<u8>, name: &Name) -> Result<(), AllocError>
@@ -69,12 +48,11 @@ fn push_names(text: &mut Vec<u8>, names: &[Name]) -> Result<(), AllocError>
 }
 
 // Appends the line of a rule.
-fn push_rule(alloc: Global, text: &mut Vec<u8>, rule: &Term) -> Result<(), AllocError>
+fn push_rule(text: &mut Vec<u8>, rule: &Term) -> Result<(), AllocError>
     ensures { OnOk result (text.new.items ≡ text.old.items ++ rule_line (tree rule.now)) }
 {
-    let name = rule.print(alloc)?;
     text.extend_from_slice(b"rule ")?;
-    text.extend_from_slice(&name)?;
+    push_term(text, rule)?;
     text.extend_from_slice(b"\n")
 }
 
@@ -90,15 +68,10 @@ fn push_profile(text: &mut Vec<u8>, profile: &Profile) -> Result<(), AllocError>
 }
 
 // Appends what stands before the result: the rule, and the profile with its names.
-fn push_head(
-    alloc: Global,
-    text: &mut Vec<u8>,
-    rule: &Term,
-    file: &SocFile,
-) -> Result<(), AllocError>
+fn push_head(text: &mut Vec<u8>, rule: &Term, file: &SocFile) -> Result<(), AllocError>
     ensures { OnOk result (text.new.items ≡ text.old.items ++ head_text (tree rule.now) file.now) }
 {
-    push_rule(alloc, text, rule)?;
+    push_rule(text, rule)?;
     push_profile(text, file.profile())?;
     push_names(text, file.names())
 }
@@ -115,18 +88,13 @@ fn push_held(text: &mut Vec<u8>, prop: Prop, derivation: &Derivation) -> Result<
 }
 
 // Appends the lines of a property that has no derivation, for these reasons.
-fn push_underived(
-    alloc: Global,
-    text: &mut Vec<u8>,
-    prop: Prop,
-    why: &Why,
-) -> Result<(), AllocError>
+fn push_underived(text: &mut Vec<u8>, prop: Prop, why: &Why) -> Result<(), AllocError>
     ensures { OnOk result (text.new.items ≡ text.old.items ++ finding_text prop (underived (reasons_seen why.now))) }
 {
     text.extend_from_slice(b"underived ")?;
     push_prop(text, prop)?;
     text.extend_from_slice(b"\n")?;
-    push_why(alloc, text, why)
+    push_why(text, why)
 }
 
 // Appends what is found of a property: its first derivation, or the reasons against it.
@@ -140,16 +108,16 @@ fn push_finding(
 {
     match derivations.derive(alloc, prop)? {
         Either::Left(derivation) => push_held(text, prop, &derivation),
-        Either::Right(why) => push_underived(alloc, text, prop, &why),
+        Either::Right(why) => push_underived(text, prop, &why),
     }
 }
 
 // Appends what is found of each property that is reported.
 fn push_findings(alloc: Global, text: &mut Vec<u8>, rule: &Term) -> Result<(), AllocError>
-    ensures { OnOk result (TellsOf (tree rule.now) reported_properties text.old.items text.new.items) }
+    ensures { OnOk result (TellsOf (tree rule.now) all_props text.old.items text.new.items) }
 {
     let derivations = Derivations::of(alloc, rule)?;
-    for prop in REPORTED.iter() {
+    for prop in Prop::all() {
         push_finding(alloc, text, &derivations, *prop)?;
     }
     Ok(())
@@ -172,7 +140,7 @@ fn text_of(
         ≡ after_run (record { term = tree rule.now; votes = file.profile }) (seen kinds made bench.old))) }
 {
     let mut text = Vec::new(alloc);
-    push_head(alloc, &mut text, rule, &file)?;
+    push_head(&mut text, rule, &file)?;
     let split = split_of_file(alloc, bench, rule, file)?;
     push_result(&mut text, &split)?;
     push_findings(alloc, &mut text, rule)?;

@@ -14,15 +14,9 @@ use Rattle.vir_rules.specs.Reasons.{Reason}
 use Rattle.vir_rules.specs.RuleTrees.{RuleTree}
 use Rattle.vir_rules.specs.Texts.{derivation_text}
 use Rattle.vir_term.specs.declared.prop.Prop.{Prop}
-use Rattle.vir_term.specs.declared.prop.Prop.TheVariants.{Ne, Ea, El, Defers, Rejects, Elim, Nb, Decr, Dli, Imono}
-use Rattle.vir_term.specs.declared.prop.Prop.TheVariants.{Dimono, Dmono, Mono, Cc, Dcc, Cprog, Ccomp, Neut}
+use Rattle.vir_term.specs.Props.{all_props}
 use Rattle.vir_term.specs.Text.{term_text}
 use Rattle.vir_term.specs.Tree.{Tree}
-
--- the properties that are reported, in their order
-abbrev pub reported_properties : List Prop
-reported_properties = Ne ∷ Ea ∷ El ∷ Defers 1 ∷ Rejects 1 ∷ Elim 1 ∷ Nb ∷ Decr ∷ Dli ∷ Imono ∷ Dimono ∷ Dmono ∷ Mono
-    ∷ Cc ∷ Dcc ∷ Cprog ∷ Ccomp ∷ Neut ∷ []
 
 -- what is found of a property: a derivation, or the reasons against one
 pub data Finding : Type 0 where
@@ -74,7 +68,7 @@ report_text term file found = head_text term file ++ count_text term file.profil
 -- to be underived has none, and what is told are the reasons.
 pub record Reported (term : Tree) (file : File) (text : List ℕ) : Type 0 where
   pub found : List Found
-  pub in_order : map (λ (f : Found). f.prop) found ≡ reported_properties
+  pub in_order : map (λ (f : Found). f.prop) found ≡ all_props
   pub held : All (λ (f : Found). (derivation : RuleTree) → f.finding ≡ holds derivation → IsHeld term f.prop derivation)
       found
   pub underived : All (λ (f : Found). (reasons : List Reason) → f.finding ≡ underived reasons → IsUnderived term f.prop
