@@ -1,6 +1,5 @@
 // The text of a certificate.
-ghost use Rattle.std.specs.Prelude.{◌≡◌, ◌++◌, OnOk, IfOk};
-ghost use Rattle.vir_term.specs.Text.{term_text};
+ghost use Rattle.std.specs.Prelude.{◌≡◌, IfOk};
 ghost use Rattle.vir_term.specs.Tree.{tree};
 ghost use Rattle.vir_cert.specs.Seen.{cert_seen};
 ghost use Rattle.vir_rules.specs.RuleTrees.{gathered, rule_tree, rule_trees};
@@ -11,7 +10,7 @@ use crate::version::{Version, is_new_prop};
 use std::alloc::{AllocError, Global};
 use vir_report::{push_derivation, push_prop};
 use vir_rules::{Children, Derivation};
-use vir_term::Term;
+use vir_term::{Term, push_term};
 
 // Whether a term has an `until`.
 fn has_until(term: &Term) -> bool
@@ -65,14 +64,6 @@ fn version_of(certificate: &Certificate) -> Version
     }
 }
 
-// Appends the text of a term.
-fn push_term(alloc: Global, text: &mut Vec<u8>, term: &Term) -> Result<(), AllocError>
-    ensures { OnOk result (text.new.items ≡ text.old.items ++ term_text (tree term.now)) }
-{
-    let printed = term.print(alloc)?;
-    text.extend_from_slice(&printed)
-}
-
 /// The text of a certificate, in the first version that has all that it names.
 pub fn print_cert(alloc: Global, certificate: &Certificate) -> Result<Vec<u8>, AllocError>
     ensures { IfOk result (λ text. text.items ≡ cert_text (cert_seen certificate.now)) }
@@ -81,7 +72,7 @@ pub fn print_cert(alloc: Global, certificate: &Certificate) -> Result<Vec<u8>, A
     text.extend_from_slice(b"virage-certificate ")?;
     text.extend_from_slice(version_of(certificate).name().as_bytes())?;
     text.extend_from_slice(b"\nterm ")?;
-    push_term(alloc, &mut text, &certificate.term)?;
+    push_term(&mut text, &certificate.term)?;
     text.extend_from_slice(b"\nproperty ")?;
     push_prop(&mut text, certificate.prop)?;
     text.extend_from_slice(b"\nderivation ")?;

@@ -16,14 +16,13 @@ ghost use Rattle.vir_term.specs.Tree.{tree};
 use crate::drill_profile::drill_profile;
 use crate::drill_terms::drill_terms;
 use crate::run::split_of;
-use itoa::Buffer;
 use std::alloc::{AllocError, Global};
 use vir_course::{Answer, LeafText, Stop};
 use vir_machine::Bench;
 use vir_profile::{Profile, SocFile, Split};
 use vir_report::push_set;
 use vir_tables::Election;
-use vir_term::{Leaf, Term};
+use vir_term::{Leaf, Term, push_number, push_term};
 
 // The first module of the terms, one after another, that no counter serves.
 fn first_unserved_of<'a>(bench: &Bench, terms: &'a [Term]) -> Option<&'a Leaf>
@@ -39,17 +38,11 @@ fn first_unserved_of<'a>(bench: &Bench, terms: &'a [Term]) -> Option<&'a Leaf>
 }
 
 // Appends the line of a rule: its text, and what it elects.
-fn push_elected(
-    alloc: Global,
-    text: &mut Vec<u8>,
-    rule: &Term,
-    split: &Split,
-) -> Result<(), AllocError>
+fn push_elected(text: &mut Vec<u8>, rule: &Term, split: &Split) -> Result<(), AllocError>
     ensures { OnOk result (text.new.items ≡ text.old.items ++ (term_text (tree rule.now) ++ codes " "
         ++ set_line (codes "elected") split.now.elected)) }
 {
-    let name = rule.print(alloc)?;
-    text.extend_from_slice(&name)?;
+    push_term(text, rule)?;
     text.extend_from_slice(b" ")?;
     push_set(text, b"elected", &split.elected)
 }
@@ -75,28 +68,27 @@ fn push_results(
         [] => Ok(()),
         [first, rest @ ..] => {
             let split = split_of(alloc, bench, first, election)?;
-            push_elected(alloc, text, first, &split)?;
+            push_elected(text, first, &split)?;
             push_results(alloc, text, bench, rest, election)
         }
     }
 }
 
 // Appends a word and a number.
-fn push_number(text: &mut Vec<u8>, word: &[u8], number: u64) -> Result<(), AllocError>
+fn push_size_word(text: &mut Vec<u8>, word: &[u8], number: u64) -> Result<(), AllocError>
     ensures { OnOk result (text.new.items ≡ text.old.items ++ (word.now ++ decimal number)) }
 {
-    let mut buffer = Buffer::new();
     text.extend_from_slice(word)?;
-    text.extend_from_slice(buffer.format(number).as_bytes())
+    push_number(text, number)
 }
 
 // Appends the line of a profile.
 fn push_size(text: &mut Vec<u8>, profile: &Profile) -> Result<(), AllocError>
     ensures { OnOk result (text.new.items ≡ text.old.items ++ size_line profile.now) }
 {
-    push_number(text, b"lines ", profile.lines() as u64)?;
-    push_number(text, b" voters ", profile.total())?;
-    push_number(text, b" alternatives ", u64::from(profile.alternatives()))?;
+    push_size_word(text, b"lines ", profile.lines() as u64)?;
+    push_size_word(text, b" voters ", profile.total())?;
+    push_size_word(text, b" alternatives ", u64::from(profile.alternatives()))?;
     text.extend_from_slice(b"\n")
 }
 

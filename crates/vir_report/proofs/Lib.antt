@@ -1,4 +1,3 @@
-pub mod Beginnings
 pub mod SpacedLemmas
 pub mod ChildrenLemmas
 pub mod LineLemmas

@@ -1,4 +1,3 @@
-pub mod Appending
 pub mod ResultText
 pub mod ClaimTexts
 pub use Rattle.vir_rules.specs.Texts

@@ -2,14 +2,14 @@
 ghost use Rattle.std.specs.Prelude.{◌≡◌, IfOk};
 ghost use Rattle.vir_rules.specs.RuleTrees.{gathered, rule_tree, rule_trees};
 ghost use Rattle.vir_rules.specs.Texts.{children_text, derivation_text};
-ghost use Rattle.vir_report.specs.Appending.{Appends};
+ghost use Rattle.vir_term.specs.Appending.{Appends};
 
 use std::alloc::{AllocError, Global};
 use vir_rules::{Children, Derivation};
 
 // Appends the derivations in parentheses, separated by commas; nothing where there are none.
 #[cycle(push_derivation)]
-#[tactic(auto, using(crate::proofs::Beginnings::beginnings))]
+#[tactic(auto, using(vir_term::proofs::Beginnings::beginnings))]
 fn push_children(text: &mut Vec<u8>, children: &Children) -> Result<(), AllocError>
     ensures { Appends result text.old.items text.new.items (children_text (gathered (rule_trees children.now))) }
 {
@@ -30,7 +30,7 @@ fn push_children(text: &mut Vec<u8>, children: &Children) -> Result<(), AllocErr
 
 /// Appends the text of a derivation: its rule's name, and its children in parentheses where it has any.
 #[cycle(push_derivation)]
-#[tactic(auto, using(crate::proofs::Beginnings::beginnings))]
+#[tactic(auto, using(vir_term::proofs::Beginnings::beginnings))]
 pub fn push_derivation(text: &mut Vec<u8>, derivation: &Derivation) -> Result<(), AllocError>
     ensures { Appends result text.old.items text.new.items (derivation_text (rule_tree derivation.now)) }
 {

@@ -1,14 +1,14 @@
 // The text of a property.
 ghost use Rattle.std.specs.Prelude.{◌≡◌, IfOk, List, ℕ};
 ghost use Rattle.vir_rules.specs.Props.{in_parentheses, number_text, prop_text};
-ghost use Rattle.vir_report.specs.Appending.{Appends};
+ghost use Rattle.vir_term.specs.Appending.{Appends};
 
-use crate::number::push_number;
 use std::alloc::{AllocError, Global};
 use vir_rules::{Prop, prop_word};
+use vir_term::push_number;
 
 // Appends a number in parentheses.
-#[tactic(auto, using(crate::proofs::Beginnings::beginnings))]
+#[tactic(auto, using(vir_term::proofs::Beginnings::beginnings))]
 fn push_in_parentheses(text: &mut Vec<u8>, number: u32) -> Result<(), AllocError>
     ensures { Appends result text.old.items text.new.items (in_parentheses number) }
 {
@@ -18,7 +18,7 @@ fn push_in_parentheses(text: &mut Vec<u8>, number: u32) -> Result<(), AllocError
 }
 
 // Appends the number of a property in parentheses; nothing where it has none.
-#[tactic(auto, using(crate::proofs::Beginnings::beginnings))]
+#[tactic(auto, using(vir_term::proofs::Beginnings::beginnings))]
 fn push_number_of(text: &mut Vec<u8>, prop: Prop) -> Result<(), AllocError>
     ensures { Appends result text.old.items text.new.items (number_text prop) }
 {
@@ -29,7 +29,7 @@ fn push_number_of(text: &mut Vec<u8>, prop: Prop) -> Result<(), AllocError>
 }
 
 /// Appends the text of a property: its name, and its number in parentheses where it has one.
-#[tactic(auto, using(crate::proofs::Beginnings::beginnings))]
+#[tactic(auto, using(vir_term::proofs::Beginnings::beginnings))]
 pub fn push_prop(text: &mut Vec<u8>, prop: Prop) -> Result<(), AllocError>
     ensures { Appends result text.old.items text.new.items (prop_text prop) }
 {

@@ -2,14 +2,14 @@
 ghost use Rattle.std.specs.Prelude.{◌≡◌, ◌∷◌, IfOk, decimal};
 ghost use Rattle.vir_altset.specs.Members.{members};
 ghost use Rattle.vir_report.specs.ResultText.{spaced, set_line, result_text};
-ghost use Rattle.vir_report.specs.Appending.{Appends};
+ghost use Rattle.vir_term.specs.Appending.{Appends};
 
-use crate::number::push_number;
 use std::alloc::{AllocError, Global};
 use vir_altset::{AltSet, Split};
+use vir_term::push_number;
 
 // Appends a space and the number.
-#[tactic(auto, using(crate::proofs::Beginnings::beginnings))]
+#[tactic(auto, using(vir_term::proofs::Beginnings::beginnings))]
 fn push_member(text: &mut Vec<u8>, member: u16) -> Result<(), AllocError>
     ensures { Appends result text.old.items text.new.items (32 ∷ decimal member) }
 {
@@ -18,7 +18,7 @@ fn push_member(text: &mut Vec<u8>, member: u16) -> Result<(), AllocError>
 }
 
 // Appends a space and the number for each member, ascending.
-#[tactic(auto, using(crate::proofs::Beginnings::beginnings))]
+#[tactic(auto, using(vir_term::proofs::Beginnings::beginnings))]
 fn push_members(text: &mut Vec<u8>, set: &AltSet) -> Result<(), AllocError>
     ensures { Appends result text.old.items text.new.items (spaced (members set.now)) }
 {
@@ -31,7 +31,7 @@ fn push_members(text: &mut Vec<u8>, set: &AltSet) -> Result<(), AllocError>
 }
 
 /// Appends the line of a set: its name, a colon, and its members.
-#[tactic(auto, using(crate::proofs::Beginnings::beginnings))]
+#[tactic(auto, using(vir_term::proofs::Beginnings::beginnings))]
 pub fn push_set(text: &mut Vec<u8>, name: &[u8], set: &AltSet) -> Result<(), AllocError>
     ensures { Appends result text.old.items text.new.items (set_line name.now set.now) }
 {
@@ -42,7 +42,7 @@ pub fn push_set(text: &mut Vec<u8>, name: &[u8], set: &AltSet) -> Result<(), All
 }
 
 /// Appends the text of a result: a line for the elected, the rejected and the deferred alternatives.
-#[tactic(auto, using(crate::proofs::Beginnings::beginnings))]
+#[tactic(auto, using(vir_term::proofs::Beginnings::beginnings))]
 pub fn push_result(text: &mut Vec<u8>, split: &Split) -> Result<(), AllocError>
     ensures { Appends result text.old.items text.new.items (result_text split.now) }
 {

@@ -5,9 +5,10 @@
 //! built, how large it is, and how it is written; what it elects is the business of `vir_mean`. Its
 //! one contract: a `Term` is seen as a pure tree (`specs/Tree.antt`), of which `size`, `equals` and
 //! `copy` speak exactly; `within_limits` tells of any term whether it is within the limits
-//! (`specs/Limits.antt`); and `print` and `push_term` give its text (`specs/Text.antt`). A `FixedOrder` is its
-//! list of alternatives, without repeats. A `Prop` names a property of rules, which `vir_mean` defines;
-//! `Prop::all` lists them in their order. It stands on std, and on `itoa` for numbers.
+//! (`specs/Limits.antt`); and `print` and `push_term` give its text (`specs/Text.antt`). The calls that begin with
+//! `push` append to a text, and what stood there stays, also where memory runs out (`specs/Appending.antt`).
+//! A `FixedOrder` is its list of alternatives, without repeats. A `Prop` names a property of rules, which
+//! `vir_mean` defines; `Prop::all` lists them in their order. It stands on std, and on `itoa` for numbers.
 #![tactic(auto)]
 
 mod fixed_order;

@@ -1,5 +1,6 @@
 // Terms in the rule language, appended to a text.
-ghost use Rattle.std.specs.Prelude.{◌≡◌, ◌++◌, OnOk, codes, decimal};
+ghost use Rattle.std.specs.Prelude.{◌++◌, codes, decimal};
+ghost use Rattle.vir_term.specs.Appending.{Appends};
 ghost use Rattle.vir_term.specs.Tree.{tree};
 ghost use Rattle.vir_term.specs.Text.{order_text, score_text, leaf_text, term_text};
 
@@ -11,8 +12,9 @@ use crate::term::Term;
 use std::alloc::AllocError;
 
 // The order as a second argument; the empty one is left out.
+#[tactic(auto, using(crate::proofs::Beginnings::beginnings))]
 fn push_order(text: &mut Vec<u8>, order: &FixedOrder) -> Result<(), AllocError>
-    ensures { OnOk result (text.new.items ≡ text.old.items ++ order_text order.now) }
+    ensures { Appends result text.old.items text.new.items (order_text order.now) }
 {
     if order.is_empty() {
         return Ok(());
@@ -27,14 +29,15 @@ fn push_order(text: &mut Vec<u8>, order: &FixedOrder) -> Result<(), AllocError>
 }
 
 // A module with a number and an order, whose name ends with its opening parenthesis.
+#[tactic(auto, using(crate::proofs::Beginnings::beginnings))]
 fn push_module(
     text: &mut Vec<u8>,
     name: &[u8],
     k: u32,
     order: &FixedOrder,
 ) -> Result<(), AllocError>
-    ensures { OnOk result (text.new.items ≡ text.old.items ++ (name.now ++ decimal k ++ order_text order.now
-        ++ codes ")")) }
+    ensures { Appends result text.old.items text.new.items
+        (name.now ++ decimal k ++ order_text order.now ++ codes ")") }
 {
     text.extend_from_slice(name)?;
     push_number(text, u64::from(k))?;
@@ -43,18 +46,19 @@ fn push_module(
 }
 
 // An eliminator, whose name ends with its opening parenthesis.
+#[tactic(auto, using(crate::proofs::Beginnings::beginnings))]
 fn push_eliminator(text: &mut Vec<u8>, name: &[u8], score: Score) -> Result<(), AllocError>
-    ensures { OnOk result (text.new.items ≡ text.old.items ++ (name.now ++ score_text score ++ codes ")")) }
+    ensures { Appends result text.old.items text.new.items (name.now ++ score_text score ++ codes ")") }
 {
     text.extend_from_slice(name)?;
     text.extend_from_slice(score.name().as_bytes())?;
     text.extend_from_slice(b")")
 }
 
-/// Appends the module's text in the rule language. After want of memory the text may have grown by a part
-/// of it.
+/// Appends the module's text in the rule language. After want of memory the text may have grown.
+#[tactic(auto, using(crate::proofs::Beginnings::beginnings))]
 pub fn push_leaf(text: &mut Vec<u8>, leaf: &Leaf) -> Result<(), AllocError>
-    ensures { OnOk result (text.new.items ≡ text.old.items ++ leaf_text leaf.now) }
+    ensures { Appends result text.old.items text.new.items (leaf_text leaf.now) }
 {
     match leaf {
         Leaf::Elect => text.extend_from_slice(b"elect"),
@@ -70,9 +74,10 @@ pub fn push_leaf(text: &mut Vec<u8>, leaf: &Leaf) -> Result<(), AllocError>
 }
 
 /// Appends the term's text in the rule language, without spaces. After want of memory the text may have
-/// grown by a part of it.
+/// grown.
+#[tactic(auto, using(crate::proofs::Beginnings::beginnings))]
 pub fn push_term(text: &mut Vec<u8>, term: &Term) -> Result<(), AllocError>
-    ensures { OnOk result (text.new.items ≡ text.old.items ++ term_text (tree term.now)) }
+    ensures { Appends result text.old.items text.new.items (term_text (tree term.now)) }
 {
     match term {
         Term::Leaf(leaf) => push_leaf(text, leaf),

@@ -4,7 +4,7 @@ use Rattle.std.proofs.lemmas.Option.{slice_get-get_or}
 use Rattle.vir_rules.specs.RuleTrees.{gathered, rule_tree, rule_trees, size, size_of_all}
 use Rattle.vir_rules.specs.Texts.{children_text}
 use Rattle.vir_report.proofs.ChildrenLemmas.{children_text_of_none, children_text_whole, more_children_text_at, size_at}
-use Rattle.vir_report.proofs.Beginnings.{appends_last, begins_after}
+use Rattle.vir_term.proofs.Beginnings.{appends_last, begins_after}
 use Rattle.vir_report.proofs.derivation.+push_derivation.Goals as goal
 
 pub push_children-returns-in_default : goal.push_children-returns-in_default

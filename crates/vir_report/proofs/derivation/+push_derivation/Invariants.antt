@@ -1,7 +1,7 @@
 use Rattle.std.proofs.Common.{◌≡◌, ◌++◌, ◌+◌, ◌*◌, drop}
 use Rattle.vir_rules.specs.RuleTrees.{gathered, rule_tree, rule_trees, size, size_of_all}
 use Rattle.vir_rules.specs.Texts.{more_children_text}
-use Rattle.vir_report.specs.Appending.{Begins}
+use Rattle.vir_term.specs.Appending.{Begins}
 use Rattle.vir_report.proofs.derivation.+push_derivation.Given as goal
 
 -- the rules in what is written, twice; a list counts one more than its members

@@ -2,7 +2,7 @@
 use Rattle.std.proofs.Common.{◌≡◌, ℕ, List, [], ◌++◌, if◌then◌else◌, Result, Ok, Err, sym, ap, ◌∙◌}
 use Rattle.std.proofs.Common.{append-nil, append_assoc}
 use Rattle.std.specs.Result.{is_ok}
-use Rattle.vir_report.specs.Appending.{Appends, Begins}
+use Rattle.vir_term.specs.Appending.{Appends, Begins}
 
 -- a text begins with itself
 pub begins_itself : (before after : List ℕ) → after ≡ before → Begins before after
@@ -31,6 +31,12 @@ pub appends_last : {T E : Type 0} (result : Result T E) (before between after ad
 appends_last (Ok done) before between after added end is whole begun = is ∙ whole
 appends_last (Err error) before between after added end is whole begun =
     record { more = begun.more; is = is ∙ begun.is }
+
+-- what a call has done that ran out of memory, where what stood there is the beginning still
+pub appends_error : {T E : Type 0} (result : Result T E) (error : E) (before after added : List ℕ)
+    → result ≡ Err error → Begins before after → Appends result before after added
+appends_error (Ok done) error before after added is begun = absurd cc
+appends_error (Err other) error before after added is begun = begun
 
 -- what is needed where memory runs out behind some calls that appended
 pub ruleset beginnings = (begins_itself, begins_before)
