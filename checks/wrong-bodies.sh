@@ -1,8 +1,8 @@
 #!/usr/bin/env bash
 # The table of wrong bodies in docs/PROMISES.md, by the files in crates/*/must-fail.
-#   docs/wrong-bodies.sh          prints it
-#   docs/wrong-bodies.sh write    puts it between its marks in the page
-#   docs/wrong-bodies.sh check    says whether it stands there, by its status
+#   checks/wrong-bodies.sh          prints it
+#   checks/wrong-bodies.sh write    puts it between its marks in the page
+#   checks/wrong-bodies.sh check    says whether it stands there, by its status
 set -u
 cd "$(dirname "$0")/.." || exit 1
 page=docs/PROMISES.md
@@ -22,7 +22,7 @@ table() {
 
 # the page, with the table between the marks
 whole_page() {
-  sed '/^<!-- printed by docs\/wrong-bodies.sh -->$/q' "$page"
+  sed '/^<!-- printed by checks\/wrong-bodies.sh -->$/q' "$page"
   table
   sed -n '/^<!-- end -->$/,$p' "$page"
 }
