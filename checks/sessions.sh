@@ -1,6 +1,7 @@
 #!/usr/bin/env bash
-# Runs the sessions of README.md and docs/*.md, each `$ COMMAND` in an indented block with what is printed below it, and
-# compares. The commands of a page run in one folder that looks like the top of the repository, and is removed.
+# Runs the sessions of README.md and docs/*.md, each `$ COMMAND` in an indented block, with its further
+# lines behind `> ` and what is printed below it, and compares. The commands of a page run in one folder that looks like the
+# top of the repository, and is removed.
 set -u
 top=$(cd "$(dirname "$0")/.." && pwd)
 room=$(mktemp -d) || exit 1
@@ -24,12 +25,13 @@ session() {
   local line command='' expected=''
   rm -rf "$room/top"
   mkdir "$room/top"
-  ln -s "$top/examples" "$top/virage" "$room/top/"
+  ln -s "$top/examples" "$top/tools" "$top/virage" "$room/top/"
   while IFS= read -r line; do
     case $line in
       "    \$ "*)
         [ -n "$command" ] && run "$1" "$command" "${expected%$'\n'}"
         command=${line#"    \$ "} expected= ;;
+      "    > "*) command+=$'\n'${line#"    > "} ;;
       "    "*) expected+=${line#    }$'\n' ;;
       "") [ -n "$command" ] && expected+=$'\n' ;;
       *)
