@@ -10,19 +10,32 @@ TOP = Path(__file__).resolve().parent.parent
 
 def blocks_of(page):
     """The indented blocks, which may hold empty lines."""
-    return [' '.join(block.split()) for block in re.findall(r'(?:^    .*\n(?:\s*\n(?=    ))*)+', page, re.M)]
+    return [flat(block) for block in re.findall(r'(?:^    .*\n(?:\s*\n(?=    ))*)+', page, re.M)]
+
+
+def flat(text):
+    return ' '.join(text.split())
+
+
+def fault(named, sources):
+    """What is wrong with a block that these files have, where the page names those; None where nothing is."""
+    if sources & named:
+        return None
+    return f'is in {sorted(sources)[0]}, which the page does not name' if sources else 'is in no crate'
 
 
 def main():
     page = (TOP / 'docs/LIBRARY.md').read_text()
-    named = {name: (TOP / name).read_text() for name in set(re.findall(r'`(crates/\w+/src/\w+\.rt)`', page))}
-    files = [' '.join(text.split()) for text in named.values()]
-    blocks = blocks_of(page)
-    strange = [block for block in blocks if not any(block in text for text in files)]
-    for block in strange:
-        print(f'library: no file that docs/LIBRARY.md names has: {block[:100]}')
-    print(f'library: {len(blocks)} pieces of code, {len(strange)} of them stand in no crate')
-    return 1 if strange or not blocks else 0
+    named = set(re.findall(r'`(crates/\w+/src/\w+\.rt)`', page))
+    texts = {str(path.relative_to(TOP)): flat(path.read_text()) for path in TOP.glob('crates/*/src/*.rt')}
+    blocks, faults = blocks_of(page), 0
+    for block in blocks:
+        wrong = fault(named, {name for name, text in texts.items() if block in text})
+        if wrong:
+            faults += 1
+            print(f'library: {block[:60]} .. {wrong}')
+    print(f'library: {len(blocks)} pieces of code, {faults} of them with a fault')
+    return 1 if faults or not blocks else 0
 
 
 if __name__ == '__main__':
