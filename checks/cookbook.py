@@ -1,5 +1,5 @@
 #!/usr/bin/env python3
-"""The tables of examples/README.md, by what `./virage report` prints of each rule of the cookbook on each shipped profile.
+"""The tables of examples/README.md, by what `./virage report` prints of each rule of the cookbook on each profile.
 
 checks/cookbook.py          prints them
 checks/cookbook.py write    puts them between their marks in the page

@@ -1,6 +1,6 @@
 #!/usr/bin/env python3
-"""Whether all code in docs/LIBRARY.md is part of a file that the gate builds: each indented block has to stand, blanks and
-line ends aside, in a file of crates/*/src that the page names."""
+"""Whether all code in docs/LIBRARY.md is part of a file that the gate builds: each indented block has to stand, blanks
+and line ends aside, in a file of crates/*/src that the page names."""
 import re
 import sys
 from pathlib import Path

@@ -1,7 +1,7 @@
 #!/usr/bin/env bash
-# Runs the sessions of README.md and docs/*.md, and compares: each `$ COMMAND` in an indented block, with its further lines
-# behind `> `, and what is printed below it. The commands of a page run in one folder that looks like the top of the
-# repository, and is removed.
+# Runs the sessions of README.md and docs/*.md, and compares: each `$ COMMAND` in an indented block, with its further
+# lines behind `> `, and what is printed below it. The commands of a page run in one folder that looks like the top of
+# the repository, and is removed.
 set -u
 top=$(cd "$(dirname "$0")/.." && pwd)
 room=$(mktemp -d) || exit 1
