@@ -1,0 +1,25 @@
+#compdef virage
+# Completion of virage's words for zsh: commands, files by their endings, properties. Made by help/page.
+@TABLES@
+
+local kind
+local -a form
+if (( CURRENT == 2 )); then
+  _describe command _virage_commands
+  return
+fi
+form=(${=_virage_forms[$words[2]]})
+kind=${${form[CURRENT - 2]}//[][]/}
+if [[ -z $kind ]]; then
+  return 1
+elif [[ -n $_virage_ending[$kind] ]]; then
+  _files -g "*.$_virage_ending[$kind]"
+elif [[ -n $_virage_between[$kind] ]]; then
+  # the last part of the word, behind the last of these signs in it
+  compset -P "*$_virage_between[$kind]"
+  compadd -S '' -- ${=_virage_choices[$kind]}
+elif [[ -n $_virage_choices[$kind] ]]; then
+  compadd -- ${=_virage_choices[$kind]}
+else
+  _message "$kind"
+fi
