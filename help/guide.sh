@@ -75,6 +75,11 @@ is_on_files() {
   case "$*" in *[!\ -~]*) return 1 ;; esac
 }
 
+# Has the checks of memory that an unproved build holds, which are slow, leave want of memory to the program.
+calm_checks() {
+  export ASAN_OPTIONS=detect_leaks=0:detect_stack_use_after_return=0:allocator_may_return_null=1
+}
+
 # Says after a usage fault what the words should have been.
 say_how() {
   local form
