@@ -1,0 +1,1 @@
+"""Tests of the module, against the program where one can be called."""

@@ -1,0 +1,69 @@
+"""Calls virage, the compiler of composed voting rules, and gives its answers as data.
+
+    >>> import virage
+    >>> votes = [(4, [1, 2, 3]), (3, [2, 3, 1]), (2, [3, 2, 1])]
+    >>> virage.count("copeland-rule = seq(max(copeland), elect);", votes).elected
+    frozenset({2})
+
+A function for each command, with the command's name. A rule is the path of a rule file, the text of one (a string with
+a semicolon, or bytes), or a Term. A profile is the path of a `.soc` file, the text of one (a string with a line feed, or
+bytes), a Profile, or a list of weights and orders. What gives no answer raises a Fault. docs/PYTHON.md goes through it.
+
+What a call gives is what the program printed; of this module itself nothing is proved.
+"""
+
+from .answers import Drill, Instruction, Report, Result, read_report
+from .commands import count, drill, listing, report
+from .derivations import Derivation, Finding, Holds, Reason, Underived
+from .faults import (
+    Broken,
+    Fault,
+    NoCounter,
+    NoProgram,
+    OutOfMemory,
+    ProfileRefused,
+    ReadFault,
+    TextRefused,
+    UsageFault,
+    WriteFault,
+)
+from .profiles import Profile
+from .program import BuildWarning, Program
+from .rules import Judgement, Property, Rule, Table, table
+from .terms import Term
+
+__all__ = [
+    "Broken",
+    "BuildWarning",
+    "Derivation",
+    "Drill",
+    "Fault",
+    "Finding",
+    "Holds",
+    "Instruction",
+    "Judgement",
+    "NoCounter",
+    "NoProgram",
+    "OutOfMemory",
+    "Profile",
+    "ProfileRefused",
+    "Program",
+    "Property",
+    "ReadFault",
+    "Reason",
+    "Report",
+    "Result",
+    "Rule",
+    "Table",
+    "Term",
+    "TextRefused",
+    "Underived",
+    "UsageFault",
+    "WriteFault",
+    "count",
+    "drill",
+    "listing",
+    "read_report",
+    "report",
+    "table",
+]
