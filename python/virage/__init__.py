@@ -6,8 +6,8 @@
     frozenset({2})
 
 A function for each command, with the command's name. A rule is the path of a rule file, the text of one (a string with
-a semicolon, or bytes), or a Term. A profile is the path of a `.soc` file, the text of one (a string with a line feed, or
-bytes), a Profile, or a list of weights and orders. What gives no answer raises a Fault. docs/PYTHON.md goes through it.
+a semicolon, or bytes), or a Term. A profile is the path of a `.soc` file, the text of one (a string with a line feed,
+or bytes), a Profile, or a list of weights and orders. What gives no answer raises a Fault. docs/PYTHON.md goes on.
 
 What a call gives is what the program printed; of this module itself nothing is proved.
 """
@@ -27,6 +27,7 @@ from .faults import (
     UsageFault,
     WriteFault,
 )
+from .pages import page
 from .profiles import Profile
 from .program import BuildWarning, Program
 from .rules import Judgement, Property, Rule, Table, table
@@ -63,6 +64,7 @@ __all__ = [
     "count",
     "drill",
     "listing",
+    "page",
     "read_report",
     "report",
     "table",

@@ -6,7 +6,7 @@ from dataclasses import dataclass, field
 from typing import Dict, FrozenSet, Iterable, List, Mapping, Tuple, Union
 
 from .derivations import Derivation, Finding, Holds, Reason, Underived, read_reasons
-from .rules import Judgement
+from .rules import Judgement, table
 from .terms import Term
 
 
@@ -33,13 +33,17 @@ class Result:
 
 @dataclass(frozen=True)
 class Report:
-    """A rule, the size and the names of a profile, the result, and what is derived of the rule on every profile."""
+    """A rule, the size and the names of a profile, the result, and what is derived of the rule on every profile.
+
+    `text` is what the program printed.
+    """
 
     term: Term
     alternatives: int
     voters: int
     result: Result
     findings: Mapping[str, Finding]
+    text: bytes = field(repr=False)
 
     @property
     def names(self) -> Mapping[int, str]:
@@ -133,7 +137,9 @@ def read_report(text: bytes) -> Report:
     while lines.more():
         found = read_finding(lines, term)
         findings[found.property] = found
-    return Report(term, alternatives, voters, result, findings)
+    if [text.partition("(")[0] for text in findings] != list(table().properties):
+        raise ValueError("the report doesn't tell of each property")
+    return Report(term, alternatives, voters, result, findings, text)
 
 
 def read_finding(lines: Lines, term: Term) -> Finding:

@@ -101,10 +101,12 @@ def read_reasons(lines: List[str]) -> Tuple[Reason, ...]:
     """The reasons of the lines below `underived`. Anything else is a ValueError."""
     if lines == ["- no rule"]:
         return ()
+    if not lines:
+        raise ValueError("no reasons where there have to be some")
     reasons = []
     for line in lines:
         dash, rule, number, premise = line.split(" ", 3)
         if dash != "-":
             raise ValueError(f"not a reason: {line!r}")
-        reasons.append(Reason(rule, int(number), Judgement.read(premise)))
+        reasons.append(Reason(table().rule(rule).name, int(number), Judgement.read(premise)))
     return tuple(reasons)

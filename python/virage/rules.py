@@ -21,6 +21,7 @@ _HEADING = re.compile(r"### .*: `([^`]*)`$")
 _RULE = re.compile(r'\| (\d+) \| <a id="[^"]*"></a>`([^`]*)` \| (.*?) \| ?(.*?) ?\|$')
 _PROPERTY = re.compile(r'\| <a id="property-([^"]*)"></a>`([^`]*)` \| (.*?) \| (.*?) \|$')
 _WHY = re.compile(r"- `([a-z0-9-]+)`: (.*)$")
+_NOTES = ("Lifts", "Renaming", "Disjoint terms")
 _LETTERS = ("k", "m", "n", "o", "t")
 
 Value = Union[Term, int, Tuple[int, ...]]
@@ -81,16 +82,27 @@ class Rule:
 
 @dataclass(frozen=True)
 class Table:
-    """All rules by their names, and all properties by their words, in the order of the page."""
+    """All rules by their names, and all properties by their words, in the order of the page.
+
+    `notes` has by their headings what the page says of words that the properties are told in, paragraph by paragraph.
+    """
 
     rules: Dict[str, Rule]
     properties: Dict[str, Property]
+    notes: Dict[str, Tuple[str, ...]]
 
     def rule(self, name: str) -> Rule:
         """The rule of this name. ValueError where there is none."""
         if name not in self.rules:
             raise ValueError(f"there is no rule {name}")
         return self.rules[name]
+
+    def property(self, text: str) -> Property:
+        """What the page says of the property of this text, as `defers(1)`. ValueError where it says nothing."""
+        word = text.partition("(")[0]
+        if word not in self.properties:
+            raise ValueError(f"there is no property {text}")
+        return self.properties[word]
 
 
 @lru_cache(maxsize=None)
@@ -119,7 +131,14 @@ def read_table(page: str) -> Table:
     rules = {}
     for number, name, conclusion, premises in rows:
         rules[name] = Rule(number, name, conclusion, tuple(filter(None, premises.split("; "))), why.get(name, ""))
-    return Table(rules, properties)
+    return Table(rules, properties, {heading: _section(page, heading) for heading in _NOTES})
+
+
+def _section(page: str, heading: str) -> Tuple[str, ...]:
+    """The paragraphs below a heading, up to the next one."""
+    _, _, rest = page.partition(f"\n### {heading}\n\n")
+    below = re.split(r"\n#", rest, maxsplit=1)[0]
+    return tuple(filter(None, below.strip().split("\n\n")))
 
 
 def _concludes(conclusion: str, judgement: Judgement, values: Dict[str, Value]) -> bool:

@@ -1,0 +1,119 @@
+"""The page of a report, as markup. No browser is called."""
+
+import subprocess
+import unittest
+from html.parser import HTMLParser
+from typing import List, Optional, Tuple
+
+import virage
+from virage import page, read_report
+
+from . import hostile
+from .places import EXPECTED, RULES, TOP, profile
+
+VOID = {"meta", "wbr"}
+ELEMENTS = VOID | set(
+    "html head title style body header main footer section div h1 h2 h3 h4 p span code pre ul li bdi table thead tbody"
+    " tr th td a details summary dl dt dd em".split()
+)
+ATTRIBUTES = set(
+    "lang charset http-equiv content name class id href role scope tabindex aria-labelledby aria-hidden".split()
+)
+
+
+class Reader(HTMLParser):
+    """Goes through a page, and takes down what is not as it has to be."""
+
+    def __init__(self, text: str) -> None:
+        super().__init__(convert_charrefs=True)
+        self.wrong: List[str] = []
+        self.open: List[str] = []
+        self.ids: List[str] = []
+        self.links: List[str] = []
+        self.said: List[str] = []
+        self.feed(text)
+        self.close()
+        self.wrong += [f"{tag} isn't closed" for tag in self.open]
+        self.wrong += [f"{link} leads nowhere" for link in self.links if link[:1] != "#" or link[1:] not in self.ids]
+        self.wrong += [f"{id_} stands twice" for id_ in set(self.ids) if self.ids.count(id_) > 1]
+
+    def handle_starttag(self, tag: str, attrs: List[Tuple[str, Optional[str]]]) -> None:
+        if tag not in ELEMENTS:
+            self.wrong.append(f"<{tag}>")
+        self.wrong += [f"{key} of <{tag}>" for key, _ in attrs if key not in ATTRIBUTES]
+        given = dict(attrs)
+        self.ids += [str(given["id"])] if "id" in given else []
+        self.links += [str(given[key]) for key in ("href", "src") if key in given]
+        if tag not in VOID:
+            self.open.append(tag)
+
+    def handle_endtag(self, tag: str) -> None:
+        if not self.open or self.open.pop() != tag:
+            self.wrong.append(f"</{tag}> where another element is open")
+
+    def handle_data(self, data: str) -> None:
+        self.said.append(data)
+
+
+class Pages(unittest.TestCase):
+    def test_pages_of_the_cookbook(self) -> None:
+        for path in RULES:
+            report = virage.report(path, profile("board"))
+            read = Reader(page(report))
+            self.assertEqual(read.wrong, [], path)
+            said = "".join(read.said)
+            for derivation in report.holds.values():
+                for node in derivation.preorder():
+                    self.assertIn(f"{node.judgement} by {node.rule}", said)
+            for reasons in report.underived.values():
+                for reason in reasons:
+                    self.assertIn(f"but its premise {reason.number} has no derivation: {reason.premise}", said)
+
+    def test_each_named_rule_is_explained(self) -> None:
+        for recorded in EXPECTED.glob("report.*"):
+            said = "".join(Reader(page(read_report(recorded.read_bytes()))).said)
+            self.assertIn("nobody is elected; and when a deferred alternative is lifted", said)
+        self.assertIn("who is elected by a sequence is elected by one of its parts.", said)
+
+    def test_names_are_text(self) -> None:
+        report = hostile.report()
+        made = page(report)
+        read = Reader(made)
+        self.assertEqual(read.wrong, [])
+        said = "".join(read.said)
+        self.assertIn("<script>document.title='taken'</script>", said)
+        self.assertIn("&lt;b&gt;not an entity&amp;", said)
+        self.assertIn("[byte FF][byte FE][U+0000][U+001B][31m", said)
+        self.assertIn("[U+202E]gnp.exe [U+2066]turned round[U+2069]", said)
+        self.assertIn("W" * 200 + "… (5,000 characters)", said)
+        for sign in "\x00\x1b\x85\u202e\u2028\ufeff":
+            self.assertNotIn(sign, made)
+        made.encode("utf-8")
+
+    def test_the_page_allows_no_script_and_no_network(self) -> None:
+        made = page(hostile.report())
+        self.assertIn("default-src 'none'; style-src 'sha256-", made)
+        self.assertNotIn("url(", made)
+        self.assertNotIn("@import", made)
+
+
+class Command(unittest.TestCase):
+    def test_a_report_in_and_a_page_out(self) -> None:
+        ended = self._run((EXPECTED / "report.copeland.board").read_bytes())
+        self.assertEqual((ended.returncode, ended.stderr), (0, b""))
+        self.assertEqual(Reader(ended.stdout.decode()).wrong, [])
+
+    def test_without_a_report(self) -> None:
+        whole = (EXPECTED / "report.copeland.board").read_bytes()
+        cut = b"\n".join(whole.split(b"\n")[:-2]) + b"\n"
+        for text in (b"", b"elected: 1\n", b"rule elect\n", b"\xff", whole[:-3], cut):
+            ended = self._run(text)
+            self.assertEqual((ended.returncode, ended.stdout), (1, b""))
+            self.assertRegex(ended.stderr.decode(), r"\Areport-page: .*\n\Z")
+
+    def _run(self, text: bytes) -> "subprocess.CompletedProcess[bytes]":
+        return subprocess.run([str(TOP / "pages" / "report-page")], input=text, capture_output=True, check=False)
+
+
+if __name__ == "__main__":
+    unittest.main()

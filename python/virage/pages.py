@@ -1,0 +1,286 @@
+"""A report as a page: one file that opens without network and holds no script."""
+
+from __future__ import annotations
+
+import base64
+import hashlib
+import re
+from pathlib import Path
+from typing import Dict, Iterable, List, Mapping, Set
+
+from .answers import Report, Result
+from .derivations import Derivation, Finding, Holds, Reason, Underived
+from .markup import Markup, element, joined, prose, term_code
+from .rules import Judgement, Rule, table
+from .terms import Term
+
+_STYLE = Path(__file__).with_name("page.css")
+
+# where a judgement on two terms is explained
+_NOTES = {"Disjoint terms": "property-disj"}
+
+# of a longer name this much is shown
+_SHOWN = 200
+
+_GLOSSES: Dict[str, str] = {
+    "elect": "elects all",
+    "defer": "defers all",
+    "plurality": "elects those with most first places, and rejects the others",
+    "pass": "defers {first} in the order {order}, and rejects the others",
+    "drop": "rejects {first} in the order {order}, and defers the others",
+    "max": "rejects those below the greatest {score}",
+    "min": "rejects those with the least {score}",
+    "below": "rejects those below the average {score}",
+    "upto": "rejects those at or below the average {score}",
+    "rev": "defers whom its part elects, and rejects the others",
+    "seq": "one after the other: the second part decides on whom the first defers",
+    "par": "side by side: both parts decide on the same alternatives",
+    "loop": "again and again, until their number is exactly {number} or a turn defers all",
+    "until": "again and again, until their number is at most {number} or a turn defers all",
+}
+
+_SCORES: Dict[str, str] = {
+    "plurality": "number of first places",
+    "borda": "Borda score",
+    "copeland": "Copeland score",
+    "minimax": "minimax score",
+    "condorcet": "Condorcet score",
+}
+
+
+def page(report: Report) -> str:
+    """The page of a report, as the text of one file."""
+    style = _STYLE.read_text(encoding="utf-8")
+    body = joined(_header(report), element("main", *_sections(report)), _footer())
+    whole = element("html", _head(str(report.term), style), element("body", body), lang="en")
+    return f"<!DOCTYPE html>\n{whole}\n"
+
+
+def _head(title: str, style: str) -> Markup:
+    allowed = base64.b64encode(hashlib.sha256(style.encode()).digest()).decode()
+    policy = f"default-src 'none'; style-src 'sha256-{allowed}'; base-uri 'none'; form-action 'none'"
+    return element(
+        "head",
+        Markup('<meta charset="utf-8">'),
+        Markup(f'<meta http-equiv="Content-Security-Policy" content="{policy}">'),
+        Markup('<meta name="viewport" content="width=device-width, initial-scale=1">'),
+        element("title", f"Report: {title}"),
+        element("style", Markup(style)),
+    )
+
+
+def _header(report: Report) -> Markup:
+    size = f"{_number(report.alternatives, 'alternative')}, {_number(report.voters, 'voter')}"
+    return element(
+        "header",
+        element("p", "Report on a voting rule", class_="kind"),
+        element("h1", term_code(str(report.term))),
+        element("p", f"Counted on a profile of {size}."),
+    )
+
+
+def _footer() -> Markup:
+    said = "This page was drawn from what the command report of virage printed. Drawing isn't part of what is proved."
+    return element("footer", element("p", said))
+
+
+def _sections(report: Report) -> Iterable[Markup]:
+    printed = element("pre", report.text.decode("utf-8", "surrogateescape"), tabindex="0")
+    yield _section("result", "Who is elected", _result(report.result))
+    yield _section("rule", "The rule", _rule(report.term))
+    yield _section("properties", "What holds on every profile", *_properties(report.findings))
+    yield _section("meaning", "What the words mean", *_meanings(report))
+    yield _section("text", "The report as it was printed", element("details", element("summary", "Show it"), printed))
+
+
+def _section(id_: str, title: str, *content: Markup) -> Markup:
+    return element("section", element("h2", title, id=id_), *content, aria_labelledby=id_)
+
+
+def _number(number: int, noun: str) -> str:
+    return f"{number:,} {noun}" if number == 1 else f"{number:,} {noun}s"
+
+
+# ---- the result
+
+
+def _result(result: Result) -> Markup:
+    sets = (("Elected", result.elected), ("Rejected", result.rejected), ("Deferred", result.deferred))
+    return element("div", *(_set(word, numbers, result.names) for word, numbers in sets), class_="sets")
+
+
+def _set(word: str, numbers: Iterable[int], names: Mapping[int, str]) -> Markup:
+    members = [_alternative(i, names) for i in sorted(numbers)]
+    listed = element("ul", *members, role="list") if members else element("p", "nobody")
+    heading = element("h3", f"{word} ", element("span", f"{len(members):,}", class_="count"))
+    return element("div", heading, listed, class_=word.lower())
+
+
+def _alternative(number: int, names: Mapping[int, str]) -> Markup:
+    shown = [element("span", str(number), class_="number")]
+    if number in names:
+        name = names[number]
+        cut = "" if len(name) <= _SHOWN else f"… ({len(name):,} characters)"
+        shown.append(element("bdi", name[:_SHOWN], class_="name"))
+        shown += [element("span", cut)] if cut else []
+    return element("li", joined(*shown))
+
+
+# ---- the rule
+
+
+def _rule(term: Term) -> Markup:
+    parts = element("ul", _part(term), role="list")
+    return element("div", parts, class_="tree", tabindex="0", role="group", aria_labelledby="rule")
+
+
+def _part(term: Term) -> Markup:
+    told = joined(term_code(term.head(*("…" for _ in term.parts))), " ", element("span", _gloss(term), class_="gloss"))
+    return _node(told, [_part(part) for part in term.parts])
+
+
+def _node(told: Markup, below: List[Markup]) -> Markup:
+    rest = (element("ul", *below, role="list"),) if below else ()
+    return element("li", element("div", told, class_="node"), *rest)
+
+
+def _gloss(term: Term) -> str:
+    listed = ", ".join(map(str, term.order))
+    order = f"{listed}, then ascending" if listed else "of the numbers"
+    first = "the first" if term.number == 1 else f"the first {term.number}"
+    score = _SCORES.get(term.score or "", "")
+    return _GLOSSES[term.word].format(number=term.number, first=first, order=order, score=score)
+
+
+# ---- the properties
+
+
+def _properties(findings: Mapping[str, Finding]) -> Iterable[Markup]:
+    derived = sum(isinstance(found, Holds) for found in findings.values())
+    yield element(
+        "p",
+        f"{derived} of {len(findings)} properties are derived. What holds has a derivation by rules that are proved to "
+        "be sound: it is true of this rule on every set of alternatives and every profile. Of what is not derived "
+        "these rules give no derivation, which doesn't mean that it is false.",
+    )
+    headings = (element("th", word, scope="col", role="columnheader") for word in ("Property", "Finding", "Why"))
+    head = element("thead", element("tr", *headings, role="row"), role="rowgroup")
+    rows = element("tbody", *(_row(found) for found in findings.values()), role="rowgroup")
+    yield element("table", head, rows, role="table", aria_labelledby="properties")
+
+
+def _row(found: Finding) -> Markup:
+    number = re.search(r"[0-9]+", found.property)
+    term = table().property(found.property).term
+    called = re.sub(r"\bk$", number[0], term) if number else term
+    what = joined(called, " ", _property_link(found.property))
+    holds = isinstance(found, Holds)
+    sign = element("span", "✓" if holds else "–", aria_hidden="true", class_="sign")
+    return element(
+        "tr",
+        element("th", what, scope="row", role="rowheader"),
+        element("td", sign, " holds" if holds else " not derived", role="cell"),
+        element("td", _why(found), role="cell"),
+        role="row",
+        class_="holds" if holds else "underived",
+    )
+
+
+def _why(found: Finding) -> Markup:
+    if isinstance(found, Holds):
+        return _derivation(found.derivation)
+    return _reasons(found)
+
+
+def _derivation(derivation: Derivation) -> Markup:
+    steps = _number(derivation.size, "step")
+    summary = element("summary", f"Derivation by {derivation.rule}, {steps}")
+    tree = element("ul", _derived(derivation), role="list")
+    return element("details", summary, element("div", tree, class_="tree"))
+
+
+def _derived(derivation: Derivation) -> Markup:
+    rule = element("span", "by ", _rule_link(derivation.rule), class_="by")
+    told = joined(_judgement(derivation.judgement), " ", rule)
+    return _node(told, [_derived(premise) for premise in derivation.premises])
+
+
+def _reasons(found: Underived) -> Markup:
+    if not found.reasons:
+        return element("p", "No rule of derivation concludes it of a rule of this form.")
+    fit = len(found.reasons)
+    summary = "One rule fits, and lacks a premise" if fit == 1 else f"{fit} rules fit, and each lacks a premise"
+    return element("details", element("summary", summary), element("ul", *map(_reason, found.reasons)))
+
+
+def _reason(reason: Reason) -> Markup:
+    return element(
+        "li",
+        _rule_link(reason.rule),
+        f" would conclude it, but its premise {reason.number} has no derivation: ",
+        _judgement(reason.premise),
+    )
+
+
+def _judgement(judgement: Judgement) -> Markup:
+    about = [term_code(str(term)) for term in judgement.terms]
+    between = about[:1] + [part for term in about[1:] for part in (Markup(" and "), term)]
+    return element("span", _property_link(judgement.property), " of ", *between, class_="judgement")
+
+
+def _property_link(text: str) -> Markup:
+    return element("a", element("code", text), href=f"#property-{text.partition('(')[0]}")
+
+
+def _rule_link(name: str) -> Markup:
+    return element("a", element("code", name), href=f"#rule-{name}")
+
+
+# ---- what the words mean
+
+
+def _meanings(report: Report) -> Iterable[Markup]:
+    known = table()
+    used = _used(report.findings.values())
+    yield element("h3", "Properties")
+    yield element(
+        "p",
+        "A property speaks of all finite sets of alternatives and all profiles on them; here A is the set, and it is "
+        "the term that elects, rejects and defers on A. A Condorcet winner is preferred to each other alternative by "
+        "more voters than prefer that one to it.",
+    )
+    about = known.properties.items()
+    yield element("dl", *(_meaning(f"property-{word}", it.text, it.term, it.says) for word, it in about))
+    for heading, paragraphs in known.notes.items():
+        told = (element("p", prose(paragraph)) for paragraph in paragraphs)
+        yield element("div", element("h4", heading), *told, id=_NOTES.get(heading, heading.lower()), class_="note")
+    yield element("h3", "Rules of derivation")
+    yield element(
+        "p",
+        "These are the rules that are named above. In them m and n are the parts of a term in their order, t is the "
+        "whole term or the other one, k is a number, o a fixed order, w the Condorcet winner, and x the one who is "
+        "lifted.",
+    )
+    named = (rule for rule in known.rules.values() if rule.name in used)
+    yield element("dl", *(_meaning(f"rule-{it.name}", it.name, f"no. {it.number}", _says(it)) for it in named))
+
+
+def _meaning(id_: str, code: str, term: str, says: str) -> Markup:
+    head = element("dt", element("code", code), " ", element("span", term))
+    return element("div", head, element("dd", prose(says)), id=id_)
+
+
+def _says(rule: Rule) -> str:
+    premises = f" from {'; '.join(rule.premises)}" if rule.premises else ""
+    return f"Concludes {rule.conclusion}{premises}. Why: {rule.why}"
+
+
+def _used(findings: Iterable[Finding]) -> Set[str]:
+    """The names of the rules that the findings name."""
+    names: Set[str] = set()
+    for found in findings:
+        if isinstance(found, Holds):
+            names.update(node.rule for node in found.derivation.preorder())
+        else:
+            names.update(reason.rule for reason in found.reasons)
+    return names
