@@ -12,6 +12,7 @@ use Rattle.vir_course.proofs.StepLemmas.{after_steps-append, last_read-append, l
 use Rattle.vir_files.specs.Contents.{Contents}
 use Rattle.vir_files.specs.Performs.{LeftBehind, Performs}
 use Rattle.vir_files.proofs.ContentLemmas.{are_by_places, by_places, some_content}
+use Rattle.vir_files.proofs.PerformLemmas.{same_reason}
 use Rattle.vir_outside.specs.Shelf.{Files}
 
 -- where some file was read last, it is the one left, whatever failing is now
@@ -45,10 +46,6 @@ module _ {A B X Y : Type 0} (first : Contents → Course A) (next : A → Course
         bench = r.bench;
         left = left_so files (last_read None r.made) untouched _ _ selected rest (λ e. same_reason reason e) r.left;
       }
-    where
-      same_reason : (reason : Stop) → (let r : Result X Stop = Err reason in r ≡ Err stop.ReadFault)
-          → (let r : Result Y Stop = Err reason in r ≡ Err stop.ReadFault)
-      same_reason reason e = let same : reason ≡ stop.ReadFault = cc in ap Err same
 
   -- they are read, and worked on
   pub performs_work : (x : X) (new : BenchView) (answer : Result Y Stop) → Performs first Sees files rose ⊥ old old

@@ -67,9 +67,15 @@ performs_one kind Sees name files rose selected rest answer r bench =
       left = r.left;
     }
 
--- ---- two files
+-- ---- how it was left
+-- a call that stops for the reason of another one fails where that does
+pub same_reason : {X Z : Type 0} (reason : Stop)
+    → (let r : Result X Stop = Err reason in r ≡ Err stop.ReadFault)
+    → (let r : Result Z Stop = Err reason in r ≡ Err stop.ReadFault)
+same_reason reason e = let same : reason ≡ stop.ReadFault = cc in ap Err same
+
 -- a shelf that told the same files before
-left_before : (files later : Option Files) (file : Asked) (selected : Bool) (rest : Option (List ℕ))
+pub left_before : (files later : Option Files) (file : Asked) (selected : Bool) (rest : Option (List ℕ))
     (failed other : Type 0) → later ≡ files → (failed → other) → Left later file selected rest failed
     → Left files file selected rest other
 left_before files later file selected rest failed other same so left =
@@ -83,6 +89,7 @@ left_before files later file selected rest failed other same so left =
     weaker (inl e) = inl (so e)
     weaker (inr e) = inr e
 
+-- ---- two files
 module _ {A B C F G X Y Z : Type 0} (first : Kind A F) (last : Kind B G) (join : A → B → C) (SeesFirst : A → X → Type 0)
     (SeesLast : B → Y → Type 0) (SeesBoth : C → Z → Type 0)
     (name other : List ℕ) (files : Option Files) (bench : BenchView) where
@@ -114,10 +121,6 @@ module _ {A B C F G X Y Z : Type 0} (first : Kind A F) (last : Kind B G) (join :
         left = left_before files files (asked_file first name) selected rest _ _ refl (λ e. same_reason reason e)
             r.left;
       }
-    where
-      same_reason : (reason : Stop) → (let r : Result X Stop = Err reason in r ≡ Err stop.ReadFault)
-          → (let r : Result Z Stop = Err reason in r ≡ Err stop.ReadFault)
-      same_reason reason e = let same : reason ≡ stop.ReadFault = cc in ap Err same
 
   module _ (later : Option Files) (same : later ≡ files) (early_rose late_rose rose : Type 0) (so : late_rose → rose)
       (selected_first selected : Bool) (rest_first rest : Option (List ℕ)) (x : X) (r : ReadsFile first SeesFirst name
@@ -158,13 +161,9 @@ module _ {A B C F G X Y Z : Type 0} (first : Kind A F) (last : Kind B G) (join :
               (follows_stop SeesLast SeesBoth rose (read_as last other (contents 1 other))
               (λ b. gives (join reached.value b)) (reads (asked_file last other) ∷ []) reason second);
           bench = refl;
-          left = left_before files later (asked_file last other) selected rest _ _ same (λ e. same_last reason e)
+          left = left_before files later (asked_file last other) selected rest _ _ same (λ e. same_reason reason e)
               s.left;
         }
-      where
-        same_last : (reason : Stop) → (let r : Result Y Stop = Err reason in r ≡ Err stop.ReadFault)
-            → (let r : Result Z Stop = Err reason in r ≡ Err stop.ReadFault)
-        same_last reason e = let same : reason ≡ stop.ReadFault = cc in ap Err same
 
     -- both are read
     pub performs_both : (y : Y) (z : Z) → ((a : A) (b : B) → SeesFirst a x → SeesLast b y → SeesBoth (join a b) z)

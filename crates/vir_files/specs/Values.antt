@@ -1,8 +1,14 @@
 -- What files say, as the code has it.
-use Rattle.std.specs.Prelude.{◌≡◌}
+use Rattle.std.specs.Prelude.{◌≡◌, ℕ, List}
+use Rattle.std.specs.declared.alloc.Global.{Global}
+use Rattle.std.specs.declared.vec.Vec.{Vec}
 use Rattle.vir_files.specs.Readings.{RuleProfile, rule_profile}
 use Rattle.vir_files.specs.declared.two_files.RuleAndProfile.{RuleAndProfile}
 use Rattle.vir_term.specs.Tree.{tree}
+
+-- A text is this.
+abbrev pub SeesText : List ℕ → Vec ℕ Global → Type 0
+SeesText bytes text = bytes ≡ text.items
 
 -- A rule and a profile are these.
 abbrev pub SeesRuleProfile : RuleProfile → RuleAndProfile → Type 0

@@ -9,6 +9,7 @@
 mod file;
 mod profile_file;
 mod rule_file;
+mod text_file;
 mod two_files;
 
 pub use file::{profile, rule};

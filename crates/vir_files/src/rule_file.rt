@@ -9,16 +9,17 @@ ghost use Rattle.vir_outside.specs.Faults.{Rose};
 ghost use Rattle.vir_term.specs.Limits.{IsWithinLimits};
 ghost use Rattle.vir_term.specs.Tree.{tree};
 
+use crate::text_file::text_file;
 use std::alloc::Global;
 use vir_book::{RULE_FILE_LIMIT, read_book};
 use vir_course::Stop;
-use vir_outside::{ReadStop, Shelf, read_whole};
-use vir_read::{TextError, TextFault, TextKind};
+use vir_outside::Shelf;
+use vir_read::TextError;
 use vir_term::Term;
 
 // The rule that the text of a rule file defines last.
 fn judge(alloc: Global, text: &[u8]) -> Result<Term, Stop>
-    ensures judges { Judges (rule_of text.now) result }
+    ensures judges { Judges tree (rule_of text.now) result }
     ensures within { IfOk result (λ term. IsWithinLimits (tree term)) }
 {
     match read_book(alloc, text) {
@@ -37,13 +38,6 @@ pub fn rule_file<S: Shelf>(alloc: Global, shelf: &mut S, name: &str) -> Result<T
     ensures files { S.files shelf.new ≡ S.files shelf.old }
     ensures later { S.faults shelf.old ≤ S.faults shelf.new }
 {
-    match read_whole(alloc, shelf, name, RULE_FILE_LIMIT) {
-        Ok(text) => judge(alloc, &text),
-        Err(ReadStop::Fault) => Err(Stop::ReadFault),
-        Err(ReadStop::TooLong) => Err(Stop::TextRefused(TextFault {
-            kind: TextKind::TextTooLong,
-            at: RULE_FILE_LIMIT,
-        })),
-        Err(ReadStop::Memory) => Err(Stop::Memory),
-    }
+    let text = text_file(alloc, shelf, name, RULE_FILE_LIMIT)?;
+    judge(alloc, &text)
 }

@@ -1,38 +1,19 @@
-use Rattle.std.proofs.Common.{◌≡◌, Err, refl, inl}
-use Rattle.vir_files.specs.Files.{rules}
-use Rattle.vir_files.proofs.PerformLemmas.{reads_fault, reads_wanting, selected_err, selected_ok}
-use Rattle.vir_files.proofs.RuleLemmas.{SeesTree, reads_judged, reads_too_long}
+use Rattle.std.proofs.lemmas.Result.{err_from_is_err_and}
+use Rattle.vir_book.specs.Books.{rule_of}
+use Rattle.vir_book.specs.declared.book.TheConstants.{RULE_FILE_LIMIT}
+use Rattle.vir_files.proofs.RuleLemmas.{long_rule}
+use Rattle.vir_files.proofs.TextLemmas.{reads_judged, reads_stopped}
 use Rattle.vir_files.proofs.rule_file.rule_file.Goals as goal
-use Rattle.vir_outside.specs.declared.reading.ReadStop.TheVariants as stop
+use Rattle.vir_term.specs.Tree.{tree}
 
-pub returns-in-Ok-clause-reads : goal.returns-in-Ok-clause-reads
-returns-in-Ok-clause-reads g c =
-    reads_judged _ _ _ _ _ _
-    (record { takes = c.in-Ok.ensures.taken; is_selected = selected_ok _ _ _ _ c.in-Ok.ensures.selected })
-    c.in-Ok.text.items c.in-Ok.ensures.content
+pub returns-in_err-text-clause-reads : goal.returns-in_err-text-clause-reads
+returns-in_err-text-clause-reads g c =
+    let p = err_from_is_err_and c.from_residual.result c.from_residual.ensures.1 in
+    rw (p.1, p.2)
+    (reads_stopped RULE_FILE_LIMIT rule_of tree long_rule _ _ _ _ _ c.in_err-text.field-0.0
+    c.in_err-text.ensures.reads)
+
+pub returns-clause-reads : goal.returns-clause-reads
+returns-clause-reads g c =
+    reads_judged RULE_FILE_LIMIT rule_of tree long_rule _ _ _ _ _ _ _ c.in_ok-text.ensures.reads
     (rw c.deref.ensures.value at c.judge.ensures.judges)
-
-pub returns-in-Err-Fault-clause-reads : goal.returns-in-Err-Fault-clause-reads
-returns-in-Err-Fault-clause-reads g c =
-    let is : c.read_whole.result ≡ Err stop.Fault = cc in
-    reads_fault rules SeesTree _ _ _ _ _ _ (record { takes = c.read_whole.ensures.taken; is_selected = inl refl })
-    (c.read_whole.ensures.fault is) refl
-
-pub returns-in-Err-TooLong-clause-reads : goal.returns-in-Err-TooLong-clause-reads
-returns-in-Err-TooLong-clause-reads g c =
-    let is : c.read_whole.result ≡ Err stop.TooLong = cc in
-    reads_too_long _ _ _ _ _ _
-    (record {
-      takes = c.read_whole.ensures.taken;
-      is_selected = selected_err stop.TooLong stop.Fault _ _ (λ e. cc) (rw is at c.read_whole.ensures.selected);
-    })
-    (c.read_whole.ensures.too_long is) refl
-
-pub returns-in-Err-Memory-clause-reads : goal.returns-in-Err-Memory-clause-reads
-returns-in-Err-Memory-clause-reads g c =
-    let is : c.read_whole.result ≡ Err stop.Memory = cc in
-    reads_wanting rules SeesTree _ _ _ _ _ _
-    (record {
-      takes = c.read_whole.ensures.taken;
-      is_selected = selected_err stop.Memory stop.Fault _ _ (λ e. cc) (rw is at c.read_whole.ensures.selected);
-    }) refl
