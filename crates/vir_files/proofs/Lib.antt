@@ -1,4 +1,5 @@
 pub mod RuleLemmas
+pub mod CertificateLemmas
 pub mod TextLemmas
 pub mod FedLemmas
 pub mod ContentLemmas

@@ -2,6 +2,7 @@
 use Rattle.std.specs.Prelude.{ℕ, List, [], ◌∷◌, None, Some, Result, Ok, Err}
 use Rattle.std.specs.declared.option.Option.{Option}
 use Rattle.vir_book.specs.Books.{rule_of}
+use Rattle.vir_cert.specs.Certs.{Cert, cert_of}
 use Rattle.vir_course.specs.Courses.{Course}
 use Rattle.vir_course.specs.Steps.{Asked, reads}
 use Rattle.vir_course.specs.declared.stop.Stop.{Stop}
@@ -20,6 +21,9 @@ pub record Kind (A F : Type 0) : Type 0 where
 
 abbrev pub rules : Kind Tree TextFault
 rules = record { limit = 1048576; says = rule_of; refused = λ fault. stop.TextRefused fault }
+
+abbrev pub certificates : Kind Cert TextFault
+certificates = record { limit = 16777216; says = cert_of; refused = λ fault. stop.TextRefused fault }
 
 abbrev pub profiles : Kind File SocFault
 profiles = record { limit = 268435456; says = soc; refused = λ fault. stop.ProfileRefused fault }

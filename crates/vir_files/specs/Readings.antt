@@ -1,15 +1,20 @@
 -- The readings of the forms of words that name files, by the contents. Files are numbered in the order in which they
 -- are asked for.
 use Rattle.std.specs.Prelude.{ℕ, List}
+use Rattle.vir_cert.specs.Certs.{Cert}
 use Rattle.vir_course.specs.Courses.{Course, and_then, gives}
 use Rattle.vir_files.specs.Contents.{Contents}
-use Rattle.vir_files.specs.Files.{profiles, read_as, rules}
+use Rattle.vir_files.specs.Files.{certificates, profiles, read_as, rules}
 use Rattle.vir_profile.specs.SocFiles.{File}
 use Rattle.vir_term.specs.Tree.{Tree}
 
 -- a rule file
 abbrev pub rule_at : Contents → ℕ → List ℕ → Course Tree
 rule_at contents place name = read_as rules name (contents place name)
+
+-- a certificate
+abbrev pub certificate_at : Contents → ℕ → List ℕ → Course Cert
+certificate_at contents place name = read_as certificates name (contents place name)
 
 -- a profile
 abbrev pub profile_at : Contents → ℕ → List ℕ → Course File

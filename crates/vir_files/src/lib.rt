@@ -3,14 +3,15 @@
 //! Each call reads the files of one form of words, one after another as long as none is refused, and says
 //! what the shelf's contents come to (`specs/Readings.antt`): the values that the files hold, or the first
 //! reason to stop. Whoever works on these values sees no shelf. It stands on `vir_outside` for the shelf,
-//! on `vir_book` and `vir_soc` for the formats, and on `vir_course`.
+//! on `vir_book`, `vir_cert` and `vir_soc` for the formats, and on `vir_course`.
 #![tactic(auto)]
 
+mod certificate_file;
 mod file;
 mod profile_file;
 mod rule_file;
 mod text_file;
 mod two_files;
 
-pub use file::{profile, rule};
+pub use file::{certificate, profile, rule};
 pub use two_files::{RuleAndProfile, rule_and_profile};
