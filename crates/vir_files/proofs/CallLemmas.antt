@@ -1,6 +1,5 @@
 -- A call that reads files and then works on what they say.
-use Rattle.std.proofs.Common.{◌≡◌, ◌⊎◌, ℕ, Bool, List, [], ◌++◌, Option, None, Some, IsTrue, Result, Ok, Err, refl}
-use Rattle.std.proofs.Common.{sym, ap, subst, ◌∙◌, inl, inr}
+use Rattle.std.proofs.Common.{◌≡◌, ℕ, Bool, List, [], ◌++◌, Option, None, Result, Ok, Err, refl, sym, ap, subst, ◌∙◌}
 use Rattle.vir_course.specs.Courses.{Course, Follows, and_then}
 use Rattle.vir_machine.specs.Runs.{BenchView}
 use Rattle.vir_course.specs.Steps.{Asked, Step, after_steps, last_read, steps_of_runs}
@@ -12,20 +11,8 @@ use Rattle.vir_course.proofs.StepLemmas.{after_steps-append, last_read-append, l
 use Rattle.vir_files.specs.Contents.{Contents}
 use Rattle.vir_files.specs.Performs.{LeftBehind, Performs}
 use Rattle.vir_files.proofs.ContentLemmas.{are_by_places, by_places, some_content}
-use Rattle.vir_files.proofs.PerformLemmas.{same_reason}
+use Rattle.vir_files.proofs.PerformLemmas.{left_so, same_reason}
 use Rattle.vir_outside.specs.Shelf.{Files}
-
--- where some file was read last, it is the one left, whatever failing is now
-left_so : (files : Option Files) (last : Option Asked) (untouched failed other : Type 0) (selected : Bool)
-    (rest : Option (List ℕ)) → (failed → other) → LeftBehind files last ⊥ selected rest failed → LeftBehind files last
-    untouched selected rest other
-left_so files None untouched failed other selected rest so left = absurd left
-left_so files (Some file) untouched failed other selected rest so left =
-    record { takes = left.takes; is_selected = by left.is_selected }
-  where
-    by : failed ⊎ IsTrue selected → other ⊎ IsTrue selected
-    by (inl e) = inl (so e)
-    by (inr e) = inr e
 
 module _ {A B X Y : Type 0} (first : Contents → Course A) (next : A → Course B) (Sees : A → X → Type 0) (SeesNext : B
     → Y → Type 0) (files : Option Files) (rose untouched : Type 0) (old : BenchView) (selected : Bool)

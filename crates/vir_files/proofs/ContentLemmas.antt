@@ -1,6 +1,7 @@
 -- What can stand under a name.
-use Rattle.std.proofs.Common.{◌≡◌, ℕ, zero, suc, ◌+◌, ◌<◌, List, [], length, replicate, Option, None}
-use Rattle.std.proofs.Common.{Some, refl, sym, arith}
+use Rattle.std.proofs.Common.{◌≡◌, ℕ, ◌+◌, ◌<◌, Bool, true, false, List, [], length, replicate, Option, None}
+use Rattle.std.proofs.Common.{Some, IsSome, nat_lt, refl, sym, ap, ◌∙◌, arith, if◌then◌else◌}
+use Rattle.std.proofs.lemmas.Bool.Decides.{nat_tests}
 use Rattle.std.proofs.lemmas.List.{length-replicate}
 use Rattle.vir_files.specs.Contents.{AreContents, CanBe, Contents}
 use Rattle.vir_outside.specs.Shelf.{Files, IsContent, IsLonger, Lacks, content_of}
@@ -47,7 +48,36 @@ pub at_place : (files : Option Files) (at : ℕ → Option (List ℕ)) (place : 
 at_place None at place name can = refl
 at_place (Some all) at place name can = can
 
--- two, one after the other
-abbrev pub two : Option (List ℕ) → Option (List ℕ) → ℕ → Option (List ℕ)
-two first next zero = first
-two first next (suc place) = next
+-- ---- a further one
+-- these at places before this one, and from there on another one, where files aren't told
+abbrev pub extended : Option Files → Contents → ℕ → Option (List ℕ) → Contents
+extended None before place content = λ at name. if nat_lt at place then before at name else content
+extended (Some all) before place content = before
+
+some_by : (b : Bool) (o p : Option (List ℕ)) → IsSome o → IsSome p → IsSome (if b then o else p)
+some_by true o p is_o is_p = is_o
+some_by false o p is_o is_p = is_p
+
+pub are_extended : (files : Option Files) (before : Contents) (place : ℕ) (name : List ℕ) (content : Option (List ℕ))
+    → AreContents files before → CanBe files name content → AreContents files (extended files before place content)
+are_extended None before place name content are can =
+    λ at other. some_by (nat_lt at place) (before at other) content (are at other) can
+are_extended (Some all) before place name content are can = are
+
+below : (at place : ℕ) → at < place → true ≡ nat_lt at place
+below at place is = grind (arith, nat_tests)
+
+not_below : (place : ℕ) → false ≡ nat_lt place place
+not_below place = grind (arith, nat_tests)
+
+pub extended_before : (files : Option Files) (before : Contents) (place : ℕ) (content : Option (List ℕ)) (at : ℕ)
+    (name : List ℕ) → at < place → before at name ≡ extended files before place content at name
+extended_before None before place content at name is =
+    ap (λ b. if b then before at name else content) (below at place is)
+extended_before (Some all) before place content at name is = refl
+
+pub extended_at : (files : Option Files) (before : Contents) (place : ℕ) (name : List ℕ) (content : Option (List ℕ))
+    → AreContents files before → CanBe files name content → content ≡ extended files before place content place name
+extended_at None before place name content are can =
+    ap (λ b. if b then before place name else content) (not_below place)
+extended_at (Some all) before place name content are can = can ∙ sym (are place name)
