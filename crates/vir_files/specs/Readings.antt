@@ -33,3 +33,18 @@ abbrev pub rule_and_profile_of : Contents → List ℕ → List ℕ → Course R
 rule_and_profile_of contents rule profile =
     and_then (rule_at contents 0 rule) (λ term. and_then (profile_at contents 1 profile)
     (λ file. gives (rule_profile term file)))
+
+-- what a rule file and two profiles say
+pub record RuleTwoProfiles : Type 0 where
+  pub term : Tree
+  pub first : File
+  pub second : File
+
+abbrev pub rule_two_profiles : RuleProfile → File → RuleTwoProfiles
+rule_two_profiles both file = record { term = both.term; first = both.file; second = file }
+
+-- a rule file and a profile, and another profile once these are accepted
+abbrev pub rule_and_two_profiles_of : Contents → List ℕ → List ℕ → List ℕ → Course RuleTwoProfiles
+rule_and_two_profiles_of contents rule first second =
+    and_then (rule_and_profile_of contents rule first) (λ both. and_then (profile_at contents 2 second)
+    (λ file. gives (rule_two_profiles both file)))

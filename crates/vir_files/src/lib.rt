@@ -11,7 +11,9 @@ mod file;
 mod profile_file;
 mod rule_file;
 mod text_file;
+mod three_files;
 mod two_files;
 
 pub use file::{certificate, profile, rule};
+pub use three_files::{RuleAndTwoProfiles, rule_and_two_profiles};
 pub use two_files::{RuleAndProfile, rule_and_profile};
