@@ -2,9 +2,14 @@
 use Rattle.vir_code.specs.Code.{code_of}
 use Rattle.vir_code.specs.Listing.{listing_text}
 use Rattle.vir_course.specs.Courses.{Course, gives}
-use Rattle.vir_course.specs.Wordings.{Wording, exactly}
+use Rattle.vir_course.specs.Wordings.{Wording, exactly, proof_of}
+use Rattle.vir_term.specs.declared.prop.Prop.{Prop}
 use Rattle.vir_term.specs.Tree.{Tree}
 
 -- `listing`: the code that the rule is compiled to
 abbrev pub listing_course : Tree → Course Wording
 listing_course term = gives (exactly (listing_text (code_of term)))
+
+-- `prove`: a certificate of a property of the rule, or why the property isn't derived
+abbrev pub prove_course : Tree → Prop → Course Wording
+prove_course term prop = gives (proof_of term prop)
