@@ -1,8 +1,9 @@
 -- The courses of the commands that say something of a rule alone. None makes a run.
+use Rattle.vir_cert.specs.Certs.{Cert}
 use Rattle.vir_code.specs.Code.{code_of}
 use Rattle.vir_code.specs.Listing.{listing_text}
 use Rattle.vir_course.specs.Courses.{Course, gives}
-use Rattle.vir_course.specs.Wordings.{Wording, exactly, proof_of}
+use Rattle.vir_course.specs.Wordings.{Wording, exactly, proof_of, verdict_on}
 use Rattle.vir_term.specs.declared.prop.Prop.{Prop}
 use Rattle.vir_term.specs.Tree.{Tree}
 
@@ -13,3 +14,7 @@ listing_course term = gives (exactly (listing_text (code_of term)))
 -- `prove`: a certificate of a property of the rule, or why the property isn't derived
 abbrev pub prove_course : Tree → Prop → Course Wording
 prove_course term prop = gives (proof_of term prop)
+
+-- `check`: that the certificate is accepted, or its first bad node
+abbrev pub check_course : Cert → Course Wording
+check_course cert = gives (verdict_on cert)

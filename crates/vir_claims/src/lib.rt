@@ -1,13 +1,15 @@
 //! The commands that say something of a rule alone: its counting code, and what can be derived of it.
 //!
-//! Each of [`listing`] and [`prove`] is handed what was read, touches neither a shelf nor a
+//! Each of [`listing`], [`prove`] and [`check`] is handed what was read, touches neither a shelf nor a
 //! bench, and gives the answer that its course leads to (`specs/Claims.antt`); an answer that affirms a property is
 //! true of what the rule means. It stands on `vir_course` for what an answer must say, on `vir_compile` and
-//! `vir_code` for the code, on `vir_derive` and `vir_cert` for derivations and certificates, and on `vir_sound` for the truth of what they affirm.
+//! `vir_code` for the code, on `vir_derive`, `vir_cert` and `vir_check` for derivations and certificates, and on `vir_sound` for the truth of what they affirm.
 #![tactic(auto)]
 
+mod checking;
 mod listings;
 mod proving;
 
+pub use checking::check;
 pub use listings::listing;
 pub use proving::prove;
