@@ -1,5 +1,5 @@
 -- What is told of properties, one after another, while a report is made.
-use Rattle.std.specs.Prelude.{◌≡◌, ℕ, List, ◌++◌, All, map}
+use Rattle.std.specs.Prelude.{◌≡◌, ℕ, List, All, map}
 use Rattle.vir_course.specs.Reports.{Finding, Found, holds, underived, finding_text, report_text}
 use Rattle.vir_course.specs.Tellings.{TellsEach}
 use Rattle.vir_profile.specs.SocFiles.{File}
