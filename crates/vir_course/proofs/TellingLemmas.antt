@@ -11,15 +11,6 @@ use Rattle.vir_term.specs.Tree.{Tree}
 use Rattle.vir_course.specs.Tellings.{TellsEach}
 
 module _ {X : Type 0} (prop_of : X → Prop) (IsSo : Tree → X → Type 0) (lines_of : X → List ℕ) where
-  -- nothing is told of no property
-  pub tells_none : (term : Tree) (text : List ℕ) → TellsEach prop_of IsSo lines_of term [] text text
-  tells_none term text = record {
-    told = [];
-    in_order = refl;
-    are_so = All-nil (IsSo term);
-    text_is = sym (append-nil text);
-  }
-
   -- what is written of one property
   pub tells_one : {E : Type 0} (term : Tree) (x : X) (old new : List ℕ) (answer : Result (Unit {0}) E) → IsSo term x
       → Appends answer old new (lines_of x) → OnOk answer (TellsEach prop_of IsSo lines_of term (prop_of x ∷ []) old new)
