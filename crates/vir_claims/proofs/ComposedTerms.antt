@@ -38,15 +38,16 @@ compositions_in_range : (at : ℕ → List Tree) (n : ℕ) → ((k : ℕ) → Ar
 compositions_in_range at n range =
     let one : IsCount 1 = record { some = lit≤ tt; few = lit≤ tt } in
     let revised : AreInRange (map rev (at n)) = All-map IsInRange rev (at n) (range n) in
-    let looped : AreInRange (map (loop (exactly 1)) (at n)) = All-map IsInRange (loop (exactly 1)) (at n)
-    (All-weaker IsInRange (λ t. IsInRange (loop (exactly 1) t)) (λ t fine. (one, fine)) (at n) (range n)) in
-    let sequenced : AreInRange (splits seq at 1 (n - 1)) = splits_in_range seq at 1 (n - 1) (λ t u first second. (first, second))
-    range in
-    let paralleled : AreInRange (splits par at 1 (n - 1)) = splits_in_range par at 1 (n - 1) (λ t u first second. (first, second))
-    range in
+    let bodies : All (λ t. IsInRange (loop (exactly 1) t)) (at n) = All-weaker IsInRange
+    (λ t. IsInRange (loop (exactly 1) t)) (λ t fine. (one, fine)) (at n) (range n) in
+    let looped : AreInRange (map (loop (exactly 1)) (at n)) = All-map IsInRange (loop (exactly 1)) (at n) bodies in
+    let splits_of : (op : Tree → Tree → Tree) → Keeps op → AreInRange (splits op at 1 (n - 1)) = λ op keeps.
+    splits_in_range op at 1 (n - 1) keeps range in
     All-append IsInRange _ (splits par at 1 (n - 1))
     (All-append IsInRange _ (splits seq at 1 (n - 1))
-    (All-append IsInRange (map rev (at n)) (map (loop (exactly 1)) (at n)) revised looped) sequenced) paralleled
+    (All-append IsInRange (map rev (at n)) (map (loop (exactly 1)) (at n)) revised looped)
+    (splits_of seq (λ t u first second. (first, second))))
+    (splits_of par (λ t u first second. (first, second)))
 
 next_in_range : (modules : List Leaf) (at : ℕ → List Tree) (n : ℕ) → All IsLeafInRange modules
     → ((k : ℕ) → AreInRange (at k)) → AreInRange (next_terms modules at n)

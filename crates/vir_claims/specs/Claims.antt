@@ -21,6 +21,7 @@ prove_course term prop = gives (proof_of term prop)
 abbrev pub check_course : Cert → Course Wording
 check_course cert = gives (verdict_on cert)
 
--- `synth`: the first rule up to a size that is composed of these modules and has these properties, or that there is none
+-- `synth`: the first rule up to a size that is composed of these modules and has these properties, or that there is
+-- none
 abbrev pub synth_course : ℕ → List Prop → List Leaf → Course Wording
 synth_course size props modules = gives (first_with size props modules)

@@ -13,7 +13,8 @@ use Rattle.vir_course.specs.Tellings.{TellsEach}
 module _ {X : Type 0} (prop_of : X → Prop) (IsSo : Tree → X → Type 0) (lines_of : X → List ℕ) where
   -- what is written of one property
   pub tells_one : {E : Type 0} (term : Tree) (x : X) (old new : List ℕ) (answer : Result (Unit {0}) E) → IsSo term x
-      → Appends answer old new (lines_of x) → OnOk answer (TellsEach prop_of IsSo lines_of term (prop_of x ∷ []) old new)
+      → Appends answer old new (lines_of x)
+      → OnOk answer (TellsEach prop_of IsSo lines_of term (prop_of x ∷ []) old new)
   tells_one term x old new (Err e) so is = tt
   tells_one term x old new (Ok done) so is =
       record {
