@@ -3,4 +3,3 @@ pub mod WorkLemmas
 pub mod ReportLemmas
 pub mod DrillLemmas
 pub mod DrillRunLemmas
-pub mod HeldLemmas

@@ -1,6 +1,7 @@
 -- What is told of properties, one after another, while a report is made.
-use Rattle.std.specs.Prelude.{◌≡◌, ℕ, List, ◌++◌, All, map}
-use Rattle.vir_course.specs.Reports.{Finding, Found, holds, underived, found_text, report_text}
+use Rattle.std.specs.Prelude.{◌≡◌, ℕ, List, All, map}
+use Rattle.vir_course.specs.Reports.{Finding, Found, holds, underived, finding_text, report_text}
+use Rattle.vir_course.specs.Tellings.{TellsEach}
 use Rattle.vir_profile.specs.SocFiles.{File}
 use Rattle.vir_rules.specs.Claims.{Claim, of}
 use Rattle.vir_rules.specs.Derivations.{Derivable, IsFirst}
@@ -20,11 +21,8 @@ abbrev pub IsSo : Tree → Found → Type 0
 IsSo term f = IsFinding (of f.prop term) f.finding
 
 -- Behind a text, it is told of these properties, in their order, what is so.
-pub record TellsOf (term : Tree) (props : List Prop) (old new : List ℕ) : Type 0 where
-  pub found : List Found
-  pub in_order : map (λ (f : Found). f.prop) found ≡ props
-  pub are_so : All (IsSo term) found
-  pub text_is : new ≡ old ++ found_text found
+abbrev pub TellsOf : Tree → List Prop → List ℕ → List ℕ → Type 0
+TellsOf = TellsEach (λ (f : Found). f.prop) IsSo (λ (f : Found). finding_text f.prop f.finding)
 
 -- The text is the report of a rule on a profile: of each property, in their order, it tells what is so.
 pub record IsReport (term : Tree) (file : File) (text : List ℕ) : Type 0 where

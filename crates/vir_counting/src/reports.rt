@@ -2,13 +2,10 @@
 ghost use Rattle.std.specs.Prelude.{◌≡◌, ◌⊎◌, ◌≤◌, ◌++◌, [], ◌∷◌, true, IfOk, OnOk, OnErr, IsErrOf};
 ghost use Rattle.std.specs.List.{flat_map};
 ghost use Rattle.vir_machine.specs.Uses.{all_served};
-ghost use Rattle.vir_rules.specs.Reasons.{reasons_seen};
-ghost use Rattle.vir_rules.specs.RuleTrees.{rule_tree};
 ghost use Rattle.vir_term.specs.Limits.{IsWithinLimits};
 ghost use Rattle.vir_term.specs.Props.{all_props};
 ghost use Rattle.vir_term.specs.Tree.{tree};
-ghost use Rattle.vir_course.specs.Reports.{finding_text, head_text, holds, name_line, profile_lines};
-ghost use Rattle.vir_course.specs.Reports.{rule_line, underived};
+ghost use Rattle.vir_course.specs.Reports.{head_text, name_line, profile_lines, rule_line};
 ghost use Rattle.vir_course.specs.Wordings.{Tells};
 ghost use Rattle.vir_course.specs.Works.{Works};
 ghost use Rattle.vir_counting.specs.Findings.{IsReport, TellsOf};
@@ -18,12 +15,12 @@ ghost use Rattle.vir_machine.specs.Runs.{after_run, seen, served_by};
 use crate::run::split_of_file;
 use either::Either;
 use std::alloc::{AllocError, Global};
-use vir_course::{Answer, LeafText, Stop};
+use vir_course::{Answer, LeafText, Stop, push_held, push_underived};
 use vir_derive::Derivations;
 use vir_machine::Bench;
 use vir_profile::{Name, Profile, SocFile};
-use vir_report::{push_derivation, push_prop, push_result, push_why};
-use vir_rules::{Derivation, Prop, Why};
+use vir_report::push_result;
+use vir_rules::Prop;
 use vir_term::{Term, push_number, push_term};
 
 // Appends the line of a name.
@@ -74,27 +71,6 @@ fn push_head(text: &mut Vec<u8>, rule: &Term, file: &SocFile) -> Result<(), Allo
     push_rule(text, rule)?;
     push_profile(text, file.profile())?;
     push_names(text, file.names())
-}
-
-// Appends the line of a property that has this derivation.
-fn push_held(text: &mut Vec<u8>, prop: Prop, derivation: &Derivation) -> Result<(), AllocError>
-    ensures { OnOk result (text.new.items ≡ text.old.items ++ finding_text prop (holds (rule_tree derivation.now))) }
-{
-    text.extend_from_slice(b"holds ")?;
-    push_prop(text, prop)?;
-    text.extend_from_slice(b" ")?;
-    push_derivation(text, derivation)?;
-    text.extend_from_slice(b"\n")
-}
-
-// Appends the lines of a property that has no derivation, for these reasons.
-fn push_underived(text: &mut Vec<u8>, prop: Prop, why: &Why) -> Result<(), AllocError>
-    ensures { OnOk result (text.new.items ≡ text.old.items ++ finding_text prop (underived (reasons_seen why.now))) }
-{
-    text.extend_from_slice(b"underived ")?;
-    push_prop(text, prop)?;
-    text.extend_from_slice(b"\n")?;
-    push_why(text, why)
 }
 
 // Appends what is found of a property: its first derivation, or the reasons against it.

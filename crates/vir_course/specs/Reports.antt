@@ -1,5 +1,5 @@
 -- A report of a rule on a profile: its text, and what the lines on properties say.
-use Rattle.std.specs.Prelude.{◌≡◌, ℕ, List, [], ◌∷◌, ◌++◌, All, codes, decimal, map}
+use Rattle.std.specs.Prelude.{◌≡◌, ℕ, List, ◌++◌, All, codes, decimal, map}
 use Rattle.std.specs.List.{flat_map}
 use Rattle.vir_course.specs.Proved.{IsHeld, IsUnderived}
 use Rattle.vir_altset.specs.Sets.{all}

@@ -2,8 +2,13 @@
 use Rattle.std.specs.Prelude.{◌≡◌, ℕ, List}
 use Rattle.vir_course.specs.declared.answer.Answer.{Answer}
 use Rattle.vir_course.specs.declared.answer.Answer.TheVariants as answer
+use Rattle.vir_cert.specs.Certs.{Cert}
+use Rattle.vir_course.specs.Certified.{IsAccepted, IsCertified, IsDenied, IsRefused}
 use Rattle.vir_course.specs.Reports.{Reported}
+use Rattle.vir_course.specs.Synthesized.{IsFound, IsNone}
 use Rattle.vir_profile.specs.SocFiles.{File}
+use Rattle.vir_term.specs.declared.leaf.Leaf.{Leaf}
+use Rattle.vir_term.specs.declared.prop.Prop.{Prop}
 use Rattle.vir_term.specs.Tree.{Tree}
 
 -- What is printed: a text that was asked for, or a denial, which says why it can't be had.
@@ -22,6 +27,12 @@ pub data Wording : Type 0 where
   exactly : List ℕ → Wording
   -- a report of a rule on a profile with names
   report_of : Tree → File → Wording
+  -- a certificate of a property of a rule, or a denial with the reasons
+  proof_of : Tree → Prop → Wording
+  -- that a certificate is accepted, or a denial with its first bad node
+  verdict_on : Cert → Wording
+  -- the first rule up to a size with these properties that is composed of these modules, or a denial
+  first_with : ℕ → List Prop → List Leaf → Wording
 
 -- The reply is such a text, and what it affirms is so.
 abbrev pub IsWorded : Wording → Reply → Type 0
@@ -29,6 +40,12 @@ IsWorded (exactly bytes) (prints told) = told ≡ bytes
 IsWorded (exactly bytes) (denies told) = ⊥
 IsWorded (report_of term file) (prints told) = Reported term file told
 IsWorded (report_of term file) (denies told) = ⊥
+IsWorded (proof_of term prop) (prints told) = IsCertified term prop told
+IsWorded (proof_of term prop) (denies told) = IsDenied term prop told
+IsWorded (verdict_on cert) (prints told) = IsAccepted cert told
+IsWorded (verdict_on cert) (denies told) = IsRefused cert told
+IsWorded (first_with size props modules) (prints told) = IsFound size props modules told
+IsWorded (first_with size props modules) (denies told) = IsNone size props modules told
 
 -- So it is of an answer of the code.
 abbrev pub Tells : Wording → Answer → Type 0

@@ -1,0 +1,12 @@
+//! The tests of `vir_claims`, in a crate of their own: what `prove`, `check` and `synth` answer for small
+//! rules.
+//!
+//! There is no code but the tests, so the crate has no contract, and `vir_claims` is proved without them.
+//! It stands on `vir_claims`, on `vir_course` for answers, on `vir_cert` for certificates, and on `vir_book`
+//! and the crates below for the rules.
+#![tactic(auto)]
+
+#[cfg(test)]
+mod answers;
+#[cfg(test)]
+mod rules;
