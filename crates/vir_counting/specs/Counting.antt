@@ -3,15 +3,20 @@
 use Rattle.std.specs.Prelude.{ℕ, List, [], ◌∷◌, None, Some, Ok}
 use Rattle.std.specs.declared.option.Option.{Option}
 use Rattle.vir_counting.specs.DrillResults.{drill_terms, drill_text, first_unserved_of, runs_on}
-use Rattle.vir_course.specs.Courses.{Course, stops}
+use Rattle.vir_altset.specs.Sets.{all}
+use Rattle.vir_course.specs.Courses.{Course, gives, stops}
 use Rattle.vir_course.specs.Reports.{count_text}
 use Rattle.vir_machine.specs.Runs.{Run}
 use Rattle.vir_course.specs.Steps.{steps_of_runs}
 use Rattle.vir_course.specs.Wordings.{Wording, exactly, report_of}
 use Rattle.vir_course.specs.declared.stop.Stop.TheVariants as stop
 use Rattle.vir_machine.specs.Uses.{first_unserved}
+use Rattle.vir_mean.specs.declared.elimination.Elimination.{Elimination}
+use Rattle.vir_positional.specs.Positional.{positional_split}
+use Rattle.vir_positional.specs.declared.weight_form.WeightForm.TheVariants as form
 use Rattle.vir_profile.specs.Profiles.{Votes}
 use Rattle.vir_profile.specs.SocFiles.{File}
+use Rattle.vir_report.specs.ResultText.{result_text}
 use Rattle.vir_term.specs.declared.leaf.Leaf.{Leaf}
 use Rattle.vir_term.specs.declared.leaf.LeafKind.{LeafKind}
 use Rattle.vir_term.specs.Text.{leaf_text}
@@ -39,3 +44,9 @@ report_course kinds term file = run_course kinds term file (report_of term file)
 abbrev pub drill_course : List (List LeafKind) → Votes → Course Wording
 drill_course kinds votes =
     counting_course (first_unserved_of kinds drill_terms) (runs_on votes drill_terms) (exactly (drill_text votes))
+
+-- `position`: what the eliminator of a kind rejects and defers of all alternatives by the weights of places; no run
+abbrev pub position_course : List ℕ → Elimination → File → Course Wording
+position_course weights kind file =
+    gives (exactly (result_text (positional_split kind (form.List weights) (all file.profile.alternatives)
+    file.profile.lines)))

@@ -1,9 +1,10 @@
-//! The commands that count: what runs of a rule on a profile come to, as texts.
+//! The commands that count: what runs of a rule on a profile come to, and what weights of places do, as texts.
 //!
 //! Each of [`count`], [`report`] and [`drill`] is handed what was read and a bench, makes the runs of its
-//! course on the bench, and gives the answer that the course leads to (`specs/Counting.antt`). None sees a
-//! shelf. It stands on `vir_course` for what an answer must say, on `vir_machine` for runs, on `vir_derive`
-//! for what a report says of properties, and on `vir_report` for texts.
+//! course on the bench, and gives the answer that the course leads to (`specs/Counting.antt`); [`position`]
+//! makes no run, and sees no bench. None sees a shelf. It stands on `vir_course` for what an answer must say,
+//! on `vir_machine` for runs, on `vir_positional` for weights, on `vir_derive` for what a report says of
+//! properties, and on `vir_report` for texts.
 #![tactic(auto)]
 
 mod counts;
@@ -11,6 +12,7 @@ mod drill_profile;
 mod drill_terms;
 mod drills;
 mod pairs;
+mod positions;
 mod reports;
 mod run;
 #[cfg(test)]
@@ -19,4 +21,5 @@ mod tests;
 pub use counts::count;
 pub use drill_profile::{DRILL_ALTERNATIVES_LIMIT, DRILL_LINES_LIMIT, DRILL_SEED_LIMIT};
 pub use drills::drill;
+pub use positions::position;
 pub use reports::report;
