@@ -5,10 +5,10 @@ ghost use Rattle.vir_course.specs.Wordings.{Tells};
 ghost use Rattle.vir_files.specs.Performs.{Performs};
 ghost use Rattle.vir_outside.specs.Faults.{Rose};
 ghost use Rattle.vir_top.specs.Calls.{AnswersWords};
-ghost use Rattle.vir_top.specs.Command.{IsInRange, command_in, command_seen, count, listing, report};
+ghost use Rattle.vir_words.specs.Command.{IsInRange, command_in, command_seen, count, listing, report};
 ghost use Rattle.vir_top.specs.CommandCourses.{command_course};
 
-use crate::command::{Command, read_words};
+use vir_words::{Command, read_words};
 use std::alloc::Global;
 use vir_claims::listing;
 use vir_counting::{count, drill, report};

@@ -8,11 +8,9 @@
 #![tactic(auto)]
 
 mod answering;
-mod command;
 mod delivery;
 mod status;
 mod top;
-mod word_number;
 
 pub use delivery::deliver;
 pub use status::{OUT_OF_MEMORY, USAGE_FAULT};

@@ -5,7 +5,7 @@ use Rattle.std.proofs.lemmas.Bool.Decides.{nat_tests}
 use Rattle.std.specs.Char.{digit_value, is_ascii_digit}
 use Rattle.std.specs.List.{list_all}
 use Rattle.std.specs.Str.Parse.{AllDigits, IsNumeral, digits_value, without_leading_plus}
-use Rattle.vir_top.specs.WordNumbers.{is_number, is_within, number_within}
+use Rattle.vir_words.specs.WordNumbers.{is_number, is_within, number_within}
 
 left : (a b : Bool) → (a && b) ≡ true → a ≡ true
 left a b e = grind arith
