@@ -37,6 +37,7 @@ fn drop_first(alloc: Global, k: u32) -> Leaf
 
 /// The 27 modules that are taken where the words name none: those without a score, with the numbers 1 and
 /// 2, and each eliminator by each score.
+#[tactic(auto, unfolding(crate::specs::WordLeaves::default_leaves))]
 pub fn default_leaves(alloc: Global) -> Result<Vec<Leaf>, AllocError>
     ensures { IfOk result (λ list. list.items ≡ default_leaves) }
 {

@@ -32,8 +32,7 @@ const ALTERNATIVES_LIMIT: u64 = 128;
 
 // The command `drill` with the numbers that these words are, where each is one of its range.
 fn read_drill<'a>(seed: &str, lines: &str, alternatives: &str) -> Option<Command<'a>>
-    ensures command { option_map command_seen result ≡ drill_words seed.now lines.now alternatives.now }
-    ensures range { IfSome result (λ command. IsInRange (command_seen command)) }
+    ensures { option_map command_seen result ≡ drill_words seed.now lines.now alternatives.now }
 {
     let seed = word_number(seed, 0, SEED_LIMIT)?;
     let lines = word_number(lines, 1, LINES_LIMIT)?;
@@ -47,8 +46,7 @@ fn read_drill<'a>(seed: &str, lines: &str, alternatives: &str) -> Option<Command
 
 // The command `prove` of the property that this word is, where it is one.
 fn read_prove<'a>(rule: &'a str, prop: &str) -> Option<Command<'a>>
-    ensures command { option_map command_seen result ≡ prove_of rule.now (prop_of prop.now) }
-    ensures range { IfSome result (λ command. IsInRange (command_seen command)) }
+    ensures { option_map command_seen result ≡ prove_of rule.now (prop_of prop.now) }
 {
     let prop = word_prop(prop)?;
     Some(Command::Prove { rule, prop })

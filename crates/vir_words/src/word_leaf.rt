@@ -19,13 +19,13 @@ fn rule_file(alloc: Global, word: &str) -> Result<Vec<u8>, AllocError>
     Ok(text)
 }
 
-// The module, where it is printed so.
-fn copy_printed(alloc: Global, word: &str, leaf: &Leaf) -> Result<Option<Leaf>, AllocError>
-    ensures { IfOk result (λ found. found ≡ printed_leaf word.now (leaf leaf.now)) }
+// A module, where it is printed so.
+fn copy_printed(alloc: Global, word: &str, read: &Leaf) -> Result<Option<Leaf>, AllocError>
+    ensures { IfOk result (λ found. found ≡ printed_leaf word.now (leaf read.now)) }
 {
-    let text = leaf.print(alloc)?;
+    let text = read.print(alloc)?;
     if text.as_slice() == word.as_bytes() {
-        Ok(Some(leaf.copy(alloc)?))
+        Ok(Some(read.copy(alloc)?))
     } else {
         Ok(None)
     }

@@ -100,6 +100,7 @@ fn read_list<P: Part>(
 }
 
 /// The properties of a word that lists them with commas.
+#[tactic(auto, unfolding(crate::specs::WordProps::props_of))]
 pub fn word_props(alloc: Global, word: &str) -> Result<Option<Vec<Prop>>, AllocError>
     ensures { IfOk result (λ found. option_map (λ list. list.items) found ≡ props_of word.now) }
 {
@@ -107,6 +108,7 @@ pub fn word_props(alloc: Global, word: &str) -> Result<Option<Vec<Prop>>, AllocE
 }
 
 /// The modules of a word that lists them with semicolons.
+#[tactic(auto, unfolding(crate::specs::WordLeaves::leaves_of))]
 pub fn word_leaves(alloc: Global, word: &str) -> Result<Option<Vec<Leaf>>, AllocError>
     ensures { IfOk result (λ found. option_map (λ list. list.items) found ≡ leaves_of word.now) }
 {
@@ -114,6 +116,7 @@ pub fn word_leaves(alloc: Global, word: &str) -> Result<Option<Vec<Leaf>>, Alloc
 }
 
 /// The weights of a word that lists them with commas.
+#[tactic(auto, unfolding(crate::specs::WordWeights::weights_of))]
 pub fn word_weights(alloc: Global, word: &str) -> Result<Option<Weights>, AllocError>
     ensures { IfOk result (λ found. found ≡ weights_of word.now) }
 {
