@@ -1,23 +1,26 @@
 -- What a command holds is within its limits.
 use Rattle.std.proofs.Common.{◌≡◌, ℕ, ◌≤◌, Bool, true, false, List, [], ◌∷◌, codes, length, cond, Option, None, Some}
-use Rattle.std.proofs.Common.{refl, subst, arith}
+use Rattle.std.proofs.Common.{◌<◌, Result, Ok, Err, String, refl, sym, subst, arith}
 use Rattle.std.specs.List.{AllByRecursion}
+use Rattle.std.specs.Option.{IfSome, option_map}
+use Rattle.std.specs.Result.{IfOk}
 use Rattle.std.specs.Str.{bytes_eq}
 use Rattle.vir_term.specs.declared.leaf.Leaf.{Leaf}
 use Rattle.vir_term.specs.declared.prop.Prop.{Prop}
-use Rattle.vir_term.specs.Limits.{IsLeafInRange, IsWithinLimits}
+use Rattle.vir_term.specs.Limits.{IsCount, IsLeafInRange, IsWithinLimits}
 use Rattle.vir_term.specs.Tree.{leaf}
 use Rattle.vir_rules.specs.Named.{IsPropInRange}
 use Rattle.vir_mean.specs.declared.elimination.Elimination.{Elimination}
 use Rattle.vir_positional.specs.WeightLists.{are_weights}
-use Rattle.vir_words.specs.Command.{Command, IsInRange, IsSearchable, check, command_of, command_of_one, command_of_three}
+use Rattle.vir_words.specs.Command.{Command, IsInRange, check, command_of, command_of_one, command_of_three}
 use Rattle.vir_words.specs.Command.{command_of_two, count, drill, drill_of, drill_words, listing, position, position_of}
-use Rattle.vir_words.specs.Command.{prove, prove_of, report, synth, synth_of, synth_words}
+use Rattle.vir_words.specs.Command.{command_in, command_seen, prove, prove_of, report, synth, synth_of, synth_words}
 use Rattle.vir_words.specs.WordLeaves.{default_leaves, leaf_of, leaves_of}
 use Rattle.vir_words.specs.WordLists.{comma, list_of, semicolon}
 use Rattle.vir_words.specs.WordNumbers.{number_within, plain_number}
 use Rattle.vir_words.specs.WordProps.{prop_of, props_of}
 use Rattle.vir_words.specs.WordWeights.{elimination_of, if_weights, weights_of}
+use Rattle.vir_words.specs.declared.command.Command.{Command as Borrowed}
 use Rattle.vir_words.proofs.LeafLemmas.{leaf_is_within}
 use Rattle.vir_words.proofs.ListLemmas.{list_is}
 use Rattle.vir_words.proofs.PropLemmas.{word_is_in_range}
@@ -57,9 +60,106 @@ weights_are word list e = if_weights_are (list_of comma 1024 (plain_number 10000
 one_leaf : (l : Leaf) → IsLeafInRange l → IsWithinLimits (leaf l)
 one_leaf l is = record { small = omega arith; flat = omega arith; in_range = is }
 
+all_within : (leaves : List Leaf) → AllByRecursion IsLeafInRange leaves
+    → AllByRecursion (λ l. IsWithinLimits (leaf l)) leaves
+all_within [] all = tt
+all_within (l ∷ rest) all = (one_leaf l all.0, all_within rest all.1)
+
+first_one : IsCount 1
+first_one = record { some = omega arith; few = omega arith }
+
+first_two : IsCount 2
+first_two = record { some = omega arith; few = omega arith }
+
+-- those of an eliminator have neither a number nor an order
+defaults_in_range : AllByRecursion IsLeafInRange default_leaves
+unfolding default_leaves
+defaults_in_range = (
+  tt,
+  (
+    tt,
+    (
+      (first_one, refl),
+      (
+        (first_two, refl),
+        (
+          (first_one, refl),
+          (
+            (first_two, refl),
+            (
+              tt,
+              (
+                tt,
+                (
+                  tt,
+                  (
+                    tt,
+                    (
+                      tt,
+                      (
+                        tt,
+                        (
+                          tt,
+                          (
+                            tt,
+                            (
+                              tt,
+                              (
+                                tt,
+                                (
+                                  tt,
+                                  (
+                                    tt,
+                                    (
+                                      tt,
+                                      (
+                                        tt,
+                                        (
+                                          tt,
+                                          (
+                                            tt,
+                                            (
+                                              tt,
+                                              (
+                                                tt,
+                                                (
+                                                  tt,
+                                                  (
+                                                    tt,
+                                                    (
+                                                      tt,
+                                                      tt,
+                                                    ),
+                                                  ),
+                                                ),
+                                              ),
+                                            ),
+                                          ),
+                                        ),
+                                      ),
+                                    ),
+                                  ),
+                                ),
+                              ),
+                            ),
+                          ),
+                        ),
+                      ),
+                    ),
+                  ),
+                ),
+              ),
+            ),
+          ),
+        ),
+      ),
+    ),
+  ),
+)
+
 defaults_are : AreLeavesInRange default_leaves
 unfolding default_leaves AreLeavesInRange
-defaults_are = ?
+defaults_are = (all_within default_leaves defaults_in_range, omega arith, omega arith)
 
 -- ---- commands
 
@@ -171,3 +271,29 @@ in_range (name ∷ first ∷ []) c e = one_in_range name first c e
 in_range (name ∷ first ∷ second ∷ []) c e = two_in_range name first second c e
 in_range (name ∷ first ∷ second ∷ third ∷ []) c e = three_in_range name first second third c e
 in_range (name ∷ first ∷ second ∷ third ∷ fourth ∷ rest) c e = nothing c e
+
+-- ---- what the code reads
+
+if_in_range : (command : Option Borrowed) (words : List (List ℕ)) → option_map command_seen command ≡ command_of words
+    → IfSome command (λ c. IsInRange (command_seen c))
+if_in_range None words told = tt
+if_in_range (Some c) words told = in_range words (command_seen c) (sym told)
+
+pub told_in_range : {E : Type 0} (r : Result (Option Borrowed) E) (words : List (List ℕ))
+    → IfOk r (λ command. option_map command_seen command ≡ command_of words)
+    → IfOk r (λ command. IfSome command (λ c. IsInRange (command_seen c)))
+told_in_range (Ok command) words told = if_in_range command words told
+told_in_range (Err e) words told = tt
+
+pub too_few : {Z : Type 0} (words : List (String Z)) → length words < 2 → None ≡ command_in words
+too_few [] few = refl
+too_few (name ∷ []) few = refl
+too_few (name ∷ first ∷ rest) few = absurd (omega arith)
+
+pub too_many : {Z : Type 0} (words : List (String Z)) → 5 ≤ length words → None ≡ command_in words
+too_many [] many = refl
+too_many (name ∷ []) many = refl
+too_many (name ∷ first ∷ []) many = absurd (omega arith)
+too_many (name ∷ first ∷ second ∷ []) many = absurd (omega arith)
+too_many (name ∷ first ∷ second ∷ third ∷ []) many = absurd (omega arith)
+too_many (name ∷ first ∷ second ∷ third ∷ fourth ∷ rest) many = refl

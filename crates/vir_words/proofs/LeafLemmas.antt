@@ -1,7 +1,8 @@
 -- Modules as words.
-use Rattle.std.proofs.Common.{◌≡◌, ℕ, ◌≤◌, Bool, true, false, List, [], ◌∷◌, ◌++◌, codes, length, cond, Option, None, Some}
-use Rattle.std.proofs.Common.{Ok, Err, refl, sym, ◌∙◌, ap, subst, arith}
+use Rattle.std.proofs.Common.{◌≡◌, ℕ, ◌≤◌, Bool, true, false, List, [], ◌∷◌, codes, length, cond, Option, None, Some}
+use Rattle.std.proofs.Common.{Result, Ok, Err, refl, sym, ◌∙◌, ap, subst, arith}
 use Rattle.std.specs.Cmp.Lexicographic.{bytes_decides}
+use Rattle.std.specs.Result.{IfOk}
 use Rattle.std.specs.Str.{bytes_eq}
 use Rattle.vir_term.specs.declared.leaf.Leaf.{Leaf}
 use Rattle.vir_term.specs.Limits.{IsWithinLimits}
@@ -9,7 +10,6 @@ use Rattle.vir_term.specs.Text.{leaf_text}
 use Rattle.vir_term.specs.Tree.{Tree, leaf, rev, seq, par, loop}
 use Rattle.vir_read.specs.declared.text_fault.TextFault.{TextFault}
 use Rattle.vir_read.specs.Faults.{OrFault, ◌>>=◌}
-use Rattle.vir_read.specs.Printed.{definition_text}
 use Rattle.vir_book.specs.Books.{Entry, book_of, entry, last_term, rule_of}
 use Rattle.vir_book.proofs.RoundTrip.{book_of-definition}
 use Rattle.vir_book.proofs.WithinLaws.{rule_within}
@@ -61,16 +61,20 @@ printed_is_leaf l within =
 -- ---- what a reader finds
 
 -- a rule that was read
-pub leaf_found : (word : List ℕ) (t : Tree) (found : Option Leaf) → rule_of (rule_file word) ≡ Ok t
-    → found ≡ printed_leaf word t → found ≡ leaf_of word
+pub leaf_found : {E : Type 0} (word text : List ℕ) (entries : List Entry) (t : Tree) (r : Result (Option Leaf) E)
+    → text ≡ rule_file word → book_of text ≡ Ok entries → last_term entries ≡ Ok t
+    → IfOk r (λ found. found ≡ printed_leaf word t) → IfOk r (λ found. found ≡ leaf_of word)
 unfolding leaf_of
-leaf_found word t found rule e = e ∙ sym (ap (leaf_read word) rule)
+leaf_found word text entries t (Err e) same book last told = tt
+leaf_found word text entries t (Ok found) same book last told =
+    let rule : rule_of (rule_file word) ≡ Ok t = subst (λ bytes. rule_of bytes ≡ Ok t) same
+    (ap (λ b. b >>= last_term) book ∙ last) in
+    told ∙ sym (ap (leaf_read word) rule)
 
 -- a fault
-pub leaf_missing : (word : List ℕ) (fault : TextFault) → book_of (rule_file word) ≡ Err fault → None ≡ leaf_of word
+pub leaf_missing : (word text : List ℕ) (fault : TextFault) → text ≡ rule_file word → book_of text ≡ Err fault
+    → None ≡ leaf_of word
 unfolding leaf_of
-leaf_missing word fault e = sym (ap (λ b. leaf_read word (b >>= last_term)) e)
-
-pub rule_read : (text : List ℕ) (entries : List Entry) (t : Tree) → book_of text ≡ Ok entries
-    → last_term entries ≡ Ok t → rule_of text ≡ Ok t
-rule_read text entries t book last = ap (λ b. b >>= last_term) book ∙ last
+leaf_missing word text fault same refused =
+    let rule : book_of (rule_file word) ≡ Err fault = subst (λ bytes. book_of bytes ≡ Err fault) same refused in
+    sym (ap (λ b. leaf_read word (b >>= last_term)) rule)

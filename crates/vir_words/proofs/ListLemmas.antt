@@ -1,13 +1,13 @@
 -- The parts of a word, and what they are, one after another.
-use Rattle.std.proofs.Common.{◌≡◌, ◌≢◌, ℕ, zero, suc, ◌+◌, ◌-◌, ◌<◌, ◌≤◌, Bool, true, false, nat_le, List, [], ◌∷◌, ◌++◌}
-use Rattle.std.proofs.Common.{length, slice_index_or, get_or, Option, Some, None, refl, sym, ◌∙◌, ap, subst, arith, append_assoc, cond}
+use Rattle.std.proofs.Common.{◌≡◌, ◌≢◌, ℕ, suc, ◌+◌, ◌-◌, ◌<◌, ◌≤◌, ◌==◌, Bool, true, false, nat_le, List, [], ◌∷◌, ◌++◌}
+use Rattle.std.proofs.Common.{length, get_or, Option, Some, None, refl, sym, ◌∙◌, ap, subst, arith, append_assoc, cond}
 use Rattle.std.proofs.Common.{append-nil}
 use Rattle.std.proofs.lemmas.Bool.Decides.{nat_tests}
 use Rattle.std.proofs.lemmas.List.{get_or_default}
 use Rattle.std.proofs.lemmas.List.Splits.{slice_split_first, slice_split_none, length-slice_split}
 use Rattle.std.proofs.lemmas.Str.Pattern.{IsSplitOnceResult, split_once_first, split_parts}
-use Rattle.std.specs.List.{All, AllByRecursion, count_by, slice_split}
-use Rattle.std.specs.Option.{option_map, option_copied}
+use Rattle.std.specs.List.{All, AllByRecursion, after_first, count_by}
+use Rattle.std.specs.Option.{option_map}
 use denote.Ref.{Bor}
 use Rattle.vir_words.specs.WordLists.{each_of, few_of, list_of, parts, with_first}
 
@@ -17,12 +17,14 @@ not_same : (a b : ℕ) → a ≢ b → (a == b) ≡ false
 not_same a b differ = grind (arith, nat_tests)
 
 -- the word is cut at its first sign
-pub cut_at : (sign : ℕ) (word : List ℕ) (x : Bor (List ℕ) × Bor (List ℕ)) → IsSplitOnceResult sign word (Some x)
-    → sign < 128 → parts sign word ≡ x.0.now ∷ parts sign x.1.now
-cut_at sign word x split small =
-    let found = split_once_first sign word (Some x) split small in
+pub cut_at : (sign : ℕ) (word : List ℕ) (first behind : Bor (List ℕ))
+    → IsSplitOnceResult sign word (Some (first, behind)) → sign < 128
+    → parts sign word ≡ first.now ∷ parts sign behind.now
+cut_at sign word first behind split small =
+    let found = split_once_first sign word (Some (first, behind)) split small in
     slice_split_first (λ b. b == sign) word 0 found.0
-    ∙ ap (λ first. first ∷ parts sign _) (sym found.1) ∙ ap (λ more. x.0.now ∷ parts sign more) (sym found.2)
+    ∙ ap (λ part. part ∷ parts sign (after_first (λ b. b == sign) word)) (sym found.1)
+    ∙ ap (λ more. first.now ∷ parts sign more) (sym found.2)
 
 -- a word without a sign is one part
 pub no_cut : (sign : ℕ) (word : List ℕ) → IsSplitOnceResult sign word None → sign < 128 → parts sign word ≡ word ∷ []
@@ -94,48 +96,48 @@ module _ {A : Type 0} (read : List ℕ → Option A) where
 
     pub starts : (word : List ℕ) → IsReadTo [] (most - 0) (parts sign word) word
     starts word =
-      let e : most - 0 ≡ most = omega arith in
-      joined_none (few_of (most - 0) read (parts sign word)) ∙ ap (λ m. few_of m read (parts sign word)) e
+        let e : most - 0 ≡ most = omega arith in
+        joined_none (few_of (most - 0) read (parts sign word)) ∙ ap (λ m. few_of m read (parts sign word)) e
 
     -- the first part that is left
     first_part : (list : List A) (i : ℕ) (first rest word : List ℕ) (behind : List (List ℕ)) → i < most
         → parts sign rest ≡ first ∷ behind → IsReadTo list (most - i) (parts sign rest) word
         → joined list (with_first (read first) (few_of (most - (i + 1)) read behind)) ≡ list_of sign most read word
     first_part list i first rest word behind below cut is =
-      let e : most - i ≡ suc (most - (i + 1)) = omega arith in
-      let same : few_of (most - i) read (parts sign rest) ≡ with_first (read first) (few_of (most - (i + 1)) read behind)
-      = ap (λ m. few_of m read (parts sign rest)) e ∙ ap (few_of (suc (most - (i + 1))) read) cut
-      ∙ few-cons (most - (i + 1)) first behind in
-      sym (ap (joined list) same) ∙ is
+        let e : most - i ≡ suc (most - (i + 1)) = omega arith in
+        let same : few_of (most - i) read (parts sign rest) ≡ with_first (read first) (few_of (most - (i + 1)) read behind)
+        = ap (λ m. few_of m read (parts sign rest)) e ∙ ap (few_of (suc (most - (i + 1))) read) cut
+        ∙ few-cons (most - (i + 1)) first behind in
+        sym (ap (joined list) same) ∙ is
 
     pub goes_on : (list : List A) (x : A) (i : ℕ) (first rest word : List ℕ) (behind : List (List ℕ)) → i < most
         → parts sign rest ≡ first ∷ behind → IsReadTo list (most - i) (parts sign rest) word → Some x ≡ read first
         → IsReadTo (list ++ x ∷ []) (most - (i + 1)) behind word
     goes_on list x i first rest word behind below cut is found =
-      sym (joined_more list x (few_of (most - (i + 1)) read behind))
-      ∙ ap (λ o. joined list (with_first o (few_of (most - (i + 1)) read behind))) found
-      ∙ first_part list i first rest word behind below cut is
+        sym (joined_more list x (few_of (most - (i + 1)) read behind))
+        ∙ ap (λ o. joined list (with_first o (few_of (most - (i + 1)) read behind))) found
+        ∙ first_part list i first rest word behind below cut is
 
     pub ends : (list : List A) (x : A) (i : ℕ) (first rest word : List ℕ) → i < most
         → parts sign rest ≡ first ∷ [] → IsReadTo list (most - i) (parts sign rest) word → Some x ≡ read first
         → Some (list ++ x ∷ []) ≡ list_of sign most read word
     ends list x i first rest word below cut is found =
-      ap Some (sym (append-nil (list ++ x ∷ []))) ∙ sym (ap (joined (list ++ x ∷ [])) (none_left (most - (i + 1))))
-      ∙ goes_on list x i first rest word [] below cut is found
+        ap Some (sym (append-nil (list ++ x ∷ []))) ∙ sym (ap (joined (list ++ x ∷ [])) (none_left (most - (i + 1))))
+        ∙ goes_on list x i first rest word [] below cut is found
 
     pub fails : (list : List A) (i : ℕ) (first rest word : List ℕ) (behind : List (List ℕ)) → i < most
         → parts sign rest ≡ first ∷ behind → IsReadTo list (most - i) (parts sign rest) word → None ≡ read first
         → None ≡ list_of sign most read word
     fails list i first rest word behind below cut is missing =
-      ap (λ o. joined list (with_first o (few_of (most - (i + 1)) read behind))) missing
-      ∙ first_part list i first rest word behind below cut is
+        ap (λ o. joined list (with_first o (few_of (most - (i + 1)) read behind))) missing
+        ∙ first_part list i first rest word behind below cut is
 
     pub is_over : (list : List A) (i : ℕ) (rest word : List ℕ) → most ≤ i
         → IsReadTo list (most - i) (parts sign rest) word → None ≡ list_of sign most read word
     is_over list i rest word past is =
-      let e : most - i ≡ 0 = omega arith in
-      sym (ap (λ m. joined list (few_of m read (parts sign rest))) e
-      ∙ ap (joined list) (none_over (parts sign rest) (some_part sign rest))) ∙ is
+        let e : most - i ≡ 0 = omega arith in
+        sym (ap (λ m. joined list (few_of m read (parts sign rest))) e
+        ∙ ap (joined list) (none_over (parts sign rest) (some_part sign rest))) ∙ is
 
   -- ---- what a list that was read is like
 
@@ -149,13 +151,13 @@ module _ {A : Type 0} (read : List ℕ → Option A) where
   each_is : (P : A → Type 0) → ((word : List ℕ) (x : A) → read word ≡ Some x → P x) → (words : List (List ℕ))
       (list : List A) → each_of read words ≡ Some list → AllByRecursion P list × (length list ≡ length words)
   each_is P is [] list e =
-    let nothing : [] ≡ list = cc in
-    subst (λ xs. AllByRecursion P xs × (length xs ≡ 0)) nothing (tt, refl)
+      let nothing : [] ≡ list = cc in
+      subst (λ xs. AllByRecursion P xs × (length xs ≡ 0)) nothing (tt, refl)
   each_is P is (word ∷ rest) list e =
-    let found = with_some (read word) (each_of read rest) list e in
-    let others = each_is P is rest found.1 found.3 in
-    subst (λ xs. AllByRecursion P xs × (length xs ≡ suc (length rest))) (sym found.4)
-    ((is word found.0 found.2, others.0), ap suc others.1)
+      let found = with_some (read word) (each_of read rest) list e in
+      let others = each_is P is rest found.1 found.3 in
+      subst (λ xs. AllByRecursion P xs × (length xs ≡ suc (length rest))) (sym found.4)
+      ((is word found.0 found.2, others.0), ap suc others.1)
 
   few_is : (b : Bool) (words : List (List ℕ)) (list : List A) → cond b (each_of read words) None ≡ Some list
       → (b ≡ true) × (each_of read words ≡ Some list)
@@ -170,9 +172,9 @@ module _ {A : Type 0} (read : List ℕ → Option A) where
       (word : List ℕ) (list : List A) → list_of sign most read word ≡ Some list
       → AllByRecursion P list × (1 ≤ length list) × (length list ≤ most)
   list_is P is sign most word list e =
-    let found = few_is (nat_le (length (parts sign word)) most) (parts sign word) list e in
-    let each = each_is P is (parts sign word) list found.1 in
-    let few : length (parts sign word) ≤ most = at_most (length (parts sign word)) most found.0 in
-    let some : 1 ≤ length (parts sign word) = some_part sign word in
-    let size : length list ≡ length (parts sign word) = each.1 in
-    (each.0, omega arith, omega arith)
+      let found = few_is (nat_le (length (parts sign word)) most) (parts sign word) list e in
+      let each = each_is P is (parts sign word) list found.1 in
+      let few : length (parts sign word) ≤ most = at_most (length (parts sign word)) most found.0 in
+      let some : 1 ≤ length (parts sign word) = some_part sign word in
+      let size : length list ≡ length (parts sign word) = each.1 in
+      (each.0, omega arith, omega arith)

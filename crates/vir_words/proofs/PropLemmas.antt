@@ -1,10 +1,7 @@
 -- Properties as words.
 use Rattle.std.proofs.Common.{◌≡◌, ℕ, ◌<◌, ◌≤◌, ◌^◌, Bool, true, false, ◌&&◌, List, [], ◌∷◌, ◌++◌, codes, decimal}
 use Rattle.std.proofs.Common.{map, unwrap_or, cond, Option, Some, None, refl, sym, ◌∙◌, ap, subst, arith, append-nil}
-use Rattle.std.proofs.lemmas.Bool.Decides.{nat_tests}
-use Rattle.std.proofs.lemmas.Fmt.{decimal_by_steps, decimal_is_IsNumeral}
 use Rattle.std.proofs.lemmas.List.Elements.{filter-append}
-use Rattle.std.proofs.lemmas.List.Folds.{list_all-append}
 use Rattle.std.specs.Char.{is_ascii_digit}
 use Rattle.std.specs.Cmp.Lexicographic.{bytes_decides}
 use Rattle.std.specs.List.{AllByRecursion, filter, list_all}
@@ -17,8 +14,8 @@ use Rattle.vir_term.specs.declared.prop.Prop.TheVariants.{Dimono, Dmono, Mono, C
 use Rattle.vir_term.specs.Limits.{IsCount}
 use Rattle.vir_term.specs.Props.{all_props}
 use Rattle.vir_rules.specs.Named.{IsPropInRange}
-use Rattle.vir_rules.specs.Props.{in_parentheses, number_text, prop_text, prop_word}
-use Rattle.vir_words.specs.WordNumbers.{is_number, is_within, number_within}
+use Rattle.vir_rules.specs.Props.{prop_text}
+use Rattle.vir_words.specs.WordNumbers.{number_within}
 use Rattle.vir_words.specs.WordProps.{first_printed, number_in, prop_of, with_number}
 use Rattle.vir_words.proofs.WordLemmas.{number_is_within, decimal_digits, number_of_decimal}
 

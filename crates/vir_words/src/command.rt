@@ -7,13 +7,24 @@ use vir_term::{Leaf, Prop};
 #[derive(Drop)]
 pub enum Command<'a> {
     /// Counts the profile with the rule.
-    Count { rule: &'a str, profile: &'a str },
+    Count {
+        rule: &'a str,
+        profile: &'a str,
+    },
     /// Reports on the rule and the profile.
-    Report { rule: &'a str, profile: &'a str },
+    Report {
+        rule: &'a str,
+        profile: &'a str,
+    },
     /// Proves the property of the rule.
-    Prove { rule: &'a str, prop: Prop },
+    Prove {
+        rule: &'a str,
+        prop: Prop,
+    },
     /// Checks the certificate.
-    Check { certificate: &'a str },
+    Check {
+        certificate: &'a str,
+    },
     /// Searches for a rule of at most this size that has the properties and is composed of the modules.
     Synth {
         size: u32,
@@ -21,7 +32,9 @@ pub enum Command<'a> {
         leaves: Vec<Leaf>,
     },
     /// Prints the counting code of the rule.
-    Listing { rule: &'a str },
+    Listing {
+        rule: &'a str,
+    },
     /// Counts a generated profile with the rules of `drill`.
     Drill {
         seed: u64,

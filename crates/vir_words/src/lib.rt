@@ -19,7 +19,7 @@ mod word_prop;
 
 pub use command::Command;
 pub use laws::{
-    commands_are_in_range, default_modules_are_27, printed_modules_are_words, printed_properties_are_words,
-    words_are_printed_modules, words_are_printed_properties,
+    commands_are_in_range, default_modules_are_27, printed_modules_are_words,
+    printed_properties_are_words, words_are_printed_modules, words_are_printed_properties,
 };
 pub use reading::read_words;
