@@ -261,7 +261,8 @@ three_in_range name first second third c e =
     (λ n word. number_is_within 1 128 third n word) is)
     (λ last. chosen (bytes_eq name (codes "position"))
     (position_of (weights_of first) (elimination_of second) third) None c
-    (λ is. position_in_range (weights_of first) (elimination_of second) third c (λ list word. weights_are first list word) is)
+    (λ is. position_in_range (weights_of first) (elimination_of second) third c
+    (λ list word. weights_are first list word) is)
     (λ is. nothing c is) last) others) e
 
 pub in_range : (words : List (List ℕ)) (c : Command) → command_of words ≡ Some c → IsInRange c

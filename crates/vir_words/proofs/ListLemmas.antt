@@ -1,5 +1,6 @@
 -- The parts of a word, and what they are, one after another.
-use Rattle.std.proofs.Common.{◌≡◌, ◌≢◌, ℕ, suc, ◌+◌, ◌-◌, ◌<◌, ◌≤◌, ◌==◌, Bool, true, false, nat_le, List, [], ◌∷◌, ◌++◌}
+use Rattle.std.proofs.Common.{◌≡◌, ◌≢◌, ℕ, suc, ◌+◌, ◌-◌, ◌<◌, ◌≤◌, ◌==◌, Bool, true, false, nat_le, List, [], ◌∷◌}
+use Rattle.std.proofs.Common.{◌++◌}
 use Rattle.std.proofs.Common.{length, get_or, Option, Some, None, refl, sym, ◌∙◌, ap, subst, arith, append_assoc, cond}
 use Rattle.std.proofs.Common.{append-nil}
 use Rattle.std.proofs.lemmas.Bool.Decides.{nat_tests}
@@ -105,7 +106,8 @@ module _ {A : Type 0} (read : List ℕ → Option A) where
         → joined list (with_first (read first) (few_of (most - (i + 1)) read behind)) ≡ list_of sign most read word
     first_part list i first rest word behind below cut is =
         let e : most - i ≡ suc (most - (i + 1)) = omega arith in
-        let same : few_of (most - i) read (parts sign rest) ≡ with_first (read first) (few_of (most - (i + 1)) read behind)
+        let same : few_of (most - i) read (parts sign rest)
+        ≡ with_first (read first) (few_of (most - (i + 1)) read behind)
         = ap (λ m. few_of m read (parts sign rest)) e ∙ ap (few_of (suc (most - (i + 1))) read) cut
         ∙ few-cons (most - (i + 1)) first behind in
         sym (ap (joined list) same) ∙ is

@@ -58,7 +58,8 @@ number_is_count word =
     (λ n e. number_is_within 1 1000000 (filter is_ascii_digit word) n e)
 
 all_in_range : (k : ℕ) → IsCount k → AllByRecursion IsPropInRange (map (with_number k) all_props)
-all_in_range k h = (tt, (tt, (tt, (h, (h, (h, (tt, (tt, (tt, (tt, (tt, (tt, (tt, (tt, (tt, (tt, (tt, (tt, tt))))))))))))))))))
+all_in_range k h =
+    (tt, (tt, (tt, (h, (h, (h, (tt, (tt, (tt, (tt, (tt, (tt, (tt, (tt, (tt, (tt, (tt, (tt, tt))))))))))))))))))
 
 -- ---- words are printed properties
 

@@ -1,5 +1,5 @@
 // Laws of words. The functions do nothing; their contracts are what is proved of the definitions.
-ghost use Rattle.std.specs.Prelude.{ℕ, ◌≡◌, List, [], ◌∷◌, Some, length};
+ghost use Rattle.std.specs.Prelude.{ℕ, ◌≡◌, List, Some, length};
 ghost use Rattle.vir_term.specs.declared.leaf.Leaf.{Leaf};
 ghost use Rattle.vir_term.specs.declared.prop.Prop.{Prop};
 ghost use Rattle.vir_term.specs.Limits.{IsWithinLimits};

@@ -1,10 +1,7 @@
 // The words of the command line, read.
-ghost use Rattle.std.specs.Prelude.{ℕ, ◌≡◌, IfOk, IfSome, Some, length, option_map};
-ghost use Rattle.std.specs.List.{AllByRecursion};
-ghost use Rattle.vir_term.specs.Limits.{IsWithinLimits};
-ghost use Rattle.vir_term.specs.Tree.{leaf};
+ghost use Rattle.std.specs.Prelude.{◌≡◌, IfOk, IfSome, Some, option_map};
 ghost use Rattle.vir_words.specs.Command.{IsInRange, command_in, command_of_one, command_of_three, command_of_two};
-ghost use Rattle.vir_words.specs.Command.{command_seen, drill_words, position_of, prove_of, synth_of, synth_words};
+ghost use Rattle.vir_words.specs.Command.{command_seen, drill_words, position_of, prove_of, synth_words};
 ghost use Rattle.vir_words.specs.WordLeaves.{leaves_of};
 ghost use Rattle.vir_words.specs.WordProps.{prop_of};
 ghost use Rattle.vir_words.specs.WordWeights.{elimination_of, weights_of};
@@ -59,7 +56,8 @@ fn read_synth<'a>(
     props: &str,
     leaves: Vec<Leaf>,
 ) -> Result<Option<Command<'a>>, AllocError>
-    ensures { IfOk result (λ found. option_map command_seen found ≡ synth_words size.now props.now (Some leaves.items)) }
+    ensures { IfOk result (λ found. option_map command_seen found
+        ≡ synth_words size.now props.now (Some leaves.items)) }
 {
     let Some(size) = word_number(size, 1, SIZE_LIMIT) else {
         return Ok(None);
@@ -157,7 +155,8 @@ fn read_synth_of<'a>(
     props: &str,
     leaves: &str,
 ) -> Result<Option<Command<'a>>, AllocError>
-    ensures { IfOk result (λ found. option_map command_seen found ≡ synth_words size.now props.now (leaves_of leaves.now)) }
+    ensures { IfOk result (λ found. option_map command_seen found
+        ≡ synth_words size.now props.now (leaves_of leaves.now)) }
 {
     match word_leaves(alloc, leaves) {
         Ok(Some(leaves)) => read_synth(alloc, size, props, leaves),
