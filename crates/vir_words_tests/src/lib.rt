@@ -12,4 +12,6 @@ mod laws;
 #[cfg(test)]
 mod long_lists;
 #[cfg(test)]
+mod searches;
+#[cfg(test)]
 mod told;

@@ -1,11 +1,15 @@
 // What words are, as a text.
 use std::alloc::{AllocError, Global};
+use std::process::Abort;
 use vir_positional::{Elimination, Weights};
 use vir_report::push_prop;
 use vir_term::{Leaf, Prop, push_leaf, push_number};
 use vir_words::{Command, read_words};
 
-pub(crate) fn owned(alloc: Global, words: &[&str]) -> Result<Vec<String>, AllocError> {
+// Words, and the command with what it holds; empty where they are none.
+pub(crate) type Row = (&'static [&'static str], &'static str);
+
+fn owned(alloc: Global, words: &[&str]) -> Result<Vec<String>, AllocError> {
     let mut owned = Vec::new(alloc);
     for word in words {
         owned.push(word.to_string(alloc)?)?;
@@ -38,13 +42,40 @@ fn push_weights(text: &mut Vec<u8>, weights: &Weights) -> Result<(), AllocError>
     Ok(())
 }
 
-fn push_names(text: &mut Vec<u8>, command: &[u8], names: &[&str]) -> Result<(), AllocError> {
-    text.extend_from_slice(command)?;
-    for name in names {
-        text.extend_from_slice(b" ")?;
-        text.extend_from_slice(name.as_bytes())?;
-    }
-    Ok(())
+fn push_name(text: &mut Vec<u8>, name: &str) -> Result<(), AllocError> {
+    text.extend_from_slice(b" ")?;
+    text.extend_from_slice(name.as_bytes())
+}
+
+fn push_two(
+    text: &mut Vec<u8>,
+    command: &str,
+    first: &str,
+    second: &str,
+) -> Result<(), AllocError> {
+    text.extend_from_slice(command.as_bytes())?;
+    push_name(text, first)?;
+    push_name(text, second)
+}
+
+fn push_one(text: &mut Vec<u8>, command: &str, first: &str) -> Result<(), AllocError> {
+    text.extend_from_slice(command.as_bytes())?;
+    push_name(text, first)
+}
+
+fn push_prove(text: &mut Vec<u8>, rule: &str, prop: Prop) -> Result<(), AllocError> {
+    push_one(text, "prove", rule)?;
+    push_props(text, &[prop])
+}
+
+fn push_position(
+    text: &mut Vec<u8>,
+    weights: &Weights,
+    kind: Elimination,
+    profile: &str,
+) -> Result<(), AllocError> {
+    push_two(text, "position", name_of(kind), profile)?;
+    push_weights(text, weights)
 }
 
 fn push_drill(
@@ -86,19 +117,16 @@ fn name_of(kind: Elimination) -> &'static str {
 // The command with what it holds.
 fn push_command(text: &mut Vec<u8>, command: &Command) -> Result<(), AllocError> {
     match command {
-        Command::Count { rule, profile } => push_names(text, b"count", &[*rule, *profile]),
-        Command::Report { rule, profile } => push_names(text, b"report", &[*rule, *profile]),
-        Command::Prove { rule, prop } => {
-            push_names(text, b"prove", &[*rule])?;
-            push_props(text, &[*prop])
-        }
-        Command::Check { certificate } => push_names(text, b"check", &[*certificate]),
+        Command::Count { rule, profile } => push_two(text, "count", rule, profile),
+        Command::Report { rule, profile } => push_two(text, "report", rule, profile),
+        Command::Prove { rule, prop } => push_prove(text, rule, *prop),
+        Command::Check { certificate } => push_one(text, "check", certificate),
         Command::Synth {
             size,
             props,
             leaves,
         } => push_synth(text, *size, props, leaves),
-        Command::Listing { rule } => push_names(text, b"listing", &[*rule]),
+        Command::Listing { rule } => push_one(text, "listing", rule),
         Command::Drill {
             seed,
             lines,
@@ -108,10 +136,7 @@ fn push_command(text: &mut Vec<u8>, command: &Command) -> Result<(), AllocError>
             weights,
             kind,
             profile,
-        } => {
-            push_names(text, b"position", &[name_of(*kind), *profile])?;
-            push_weights(text, weights)
-        }
+        } => push_position(text, weights, *kind, profile),
     }
 }
 
@@ -124,4 +149,14 @@ pub(crate) fn told(alloc: Global, words: &[String]) -> Result<Vec<u8>, AllocErro
         Err(e) => return Err(e),
     }
     Ok(text)
+}
+
+// The words of each row are its command.
+pub(crate) fn expect_rows(rt: &impl Abort, alloc: Global, rows: &[Row]) -> Result<(), AllocError> {
+    for (words, command) in rows {
+        let owned = owned(alloc, words)?;
+        let told = told(alloc, &owned)?;
+        assert!(rt; told.as_slice() == command.as_bytes(), "{words:?}");
+    }
+    Ok(())
 }
