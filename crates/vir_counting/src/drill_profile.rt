@@ -6,15 +6,6 @@ ghost use Rattle.vir_counting.specs.Drill.{next_state, draw_of, drawn_from, dril
 use std::alloc::{AllocError, Global};
 use vir_profile::{AddFault, Ballot, Entry, Profile};
 
-/// The greatest seed of a generated profile.
-pub const DRILL_SEED_LIMIT: u64 = 18_446_744_073_709_551_615;
-
-/// The most lines that a generated profile has.
-pub const DRILL_LINES_LIMIT: u32 = 100_000;
-
-/// The greatest number of alternatives of a generated profile.
-pub const DRILL_ALTERNATIVES_LIMIT: u16 = 128;
-
 // What takes a state to the one after it.
 const FACTOR: u64 = 6364136223846793005;
 

@@ -19,7 +19,6 @@ mod run;
 mod tests;
 
 pub use counts::count;
-pub use drill_profile::{DRILL_ALTERNATIVES_LIMIT, DRILL_LINES_LIMIT, DRILL_SEED_LIMIT};
 pub use drills::drill;
 pub use positions::position;
 pub use reports::report;

@@ -20,7 +20,7 @@ use Rattle.vir_term.specs.declared.leaf.LeafKind.{LeafKind}
 use Rattle.vir_term.specs.declared.term.Term.{Term}
 use Rattle.vir_term.specs.Tree.{Tree, tree}
 use Rattle.vir_top.specs.Calls.{AnswersWords}
-use Rattle.vir_top.specs.Command.{Command}
+use Rattle.vir_words.specs.Command.{Command}
 use Rattle.vir_top.specs.CommandCourses.{command_course}
 
 module _ (files : Option Files) (rose untouched : Type 0) (selected : Bool) (rest : Option (List ℕ)) where

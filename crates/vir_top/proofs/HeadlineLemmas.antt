@@ -14,7 +14,7 @@ use Rattle.vir_term.specs.declared.leaf.LeafKind.{LeafKind}
 use Rattle.vir_term.specs.Tree.{Tree}
 use Rattle.vir_top.proofs.StatusLemmas.{call_printed}
 use Rattle.vir_top.specs.Calls.{AnswersWords, Calls}
-use Rattle.vir_top.specs.Command.{Command, report}
+use Rattle.vir_words.specs.Command.{Command, report}
 use Rattle.vir_top.specs.CommandCourses.{command_course}
 use Rattle.vir_top.specs.Delivery.{Delivers, SinkView}
 use Rattle.vir_top.specs.Headline.{ReportPrinted}

@@ -1,5 +1,4 @@
 pub mod WritesLemmas
-pub mod WordLemmas
 pub mod AnswerLemmas
 pub mod StatusLemmas
 pub mod HeadlineLemmas

@@ -22,7 +22,7 @@ use Rattle.vir_term.specs.declared.leaf.Leaf.{Leaf}
 use Rattle.vir_term.specs.declared.leaf.LeafKind.{LeafKind}
 use Rattle.vir_term.specs.Tree.{Tree}
 use Rattle.vir_top.specs.Calls.{AnswersWords, Calls, IsUsage}
-use Rattle.vir_top.specs.Command.{Command, count, drill, listing, report}
+use Rattle.vir_words.specs.Command.{Command, count, drill, listing, report}
 use Rattle.vir_top.specs.CommandCourses.{command_course}
 use Rattle.vir_top.specs.Delivery.{Delivers, SinkView}
 

@@ -15,7 +15,7 @@ use Rattle.vir_files.specs.Performs.{Performs}
 use Rattle.vir_outside.specs.Faults.{Rose}
 use Rattle.vir_outside.specs.Shelf.{Files}
 use Rattle.vir_top.specs.Calls.{AnswersWords, Calls}
-use Rattle.vir_top.specs.Command.{Command}
+use Rattle.vir_words.specs.Command.{Command}
 use Rattle.vir_top.specs.CommandCourses.{command_course}
 use Rattle.vir_top.specs.Delivery.{Delivers, SinkView, stop_status}
 use Rattle.vir_top.specs.Printed.{IsDue, Printed, told_contents}

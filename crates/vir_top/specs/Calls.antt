@@ -8,7 +8,7 @@ use Rattle.vir_course.specs.declared.stop.Stop.{Stop}
 use Rattle.vir_course.specs.declared.stop.Stop.TheVariants.{Memory, Usage}
 use Rattle.vir_files.specs.Performs.{Performs}
 use Rattle.vir_outside.specs.Shelf.{Files}
-use Rattle.vir_top.specs.Command.{Command}
+use Rattle.vir_words.specs.Command.{Command}
 use Rattle.vir_top.specs.CommandCourses.{command_course}
 
 -- Words that are no command: that is the reason to stop, or memory was wanting while they were read. Nothing is done.

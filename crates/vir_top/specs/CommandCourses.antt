@@ -9,7 +9,7 @@ use Rattle.vir_course.specs.Wordings.{Wording}
 use Rattle.vir_files.specs.Contents.{Contents}
 use Rattle.vir_files.specs.Readings.{rule_and_profile_of, rule_at}
 use Rattle.vir_term.specs.declared.leaf.LeafKind.{LeafKind}
-use Rattle.vir_top.specs.Command.{Command, count, drill, listing, report}
+use Rattle.vir_words.specs.Command.{Command, count, drill, listing, report}
 
 abbrev pub command_course : List (List LeafKind) → Command → Contents → Course Wording
 command_course kinds (count rule profile) contents =

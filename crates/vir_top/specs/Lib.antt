@@ -1,10 +1,8 @@
-pub mod Command
 pub mod CommandCourses
 pub mod Delivery
 pub mod Calls
 pub mod Printed
 pub mod Headline
-pub mod WordNumbers
 pub use Rattle.vir_outside.specs.Faults
 pub use Rattle.vir_outside.specs.Shelf
 pub use Rattle.vir_outside.specs.Sink

@@ -5,10 +5,9 @@ ghost use Rattle.vir_course.specs.Wordings.{Tells};
 ghost use Rattle.vir_files.specs.Performs.{Performs};
 ghost use Rattle.vir_outside.specs.Faults.{Rose};
 ghost use Rattle.vir_top.specs.Calls.{AnswersWords};
-ghost use Rattle.vir_top.specs.Command.{IsInRange, command_in, command_seen, count, listing, report};
+ghost use Rattle.vir_words.specs.Command.{IsInRange, command_in, command_seen, count, listing, report};
 ghost use Rattle.vir_top.specs.CommandCourses.{command_course};
 
-use crate::command::{Command, read_words};
 use std::alloc::Global;
 use vir_claims::listing;
 use vir_counting::{count, drill, report};
@@ -16,6 +15,7 @@ use vir_course::{Answer, Stop};
 use vir_files::{RuleAndProfile, rule, rule_and_profile};
 use vir_machine::Bench;
 use vir_outside::Shelf;
+use vir_words::{Command, read_words};
 
 // Answers `count` for the files of these names.
 fn answer_count<S: Shelf>(

@@ -4,7 +4,7 @@ ghost use Rattle.vir_machine.specs.Runs.{seen, served_by};
 ghost use Rattle.vir_outside.specs.Faults.{Rose};
 ghost use Rattle.vir_outside.specs.Shelf.{Files};
 ghost use Rattle.vir_top.specs.Calls.{AnswersWords, Calls};
-ghost use Rattle.vir_top.specs.Command.{Command, command_in, report};
+ghost use Rattle.vir_words.specs.Command.{Command, command_in, report};
 ghost use Rattle.vir_top.specs.CommandCourses.{command_course};
 ghost use Rattle.vir_top.specs.Delivery.{Delivers, sink};
 ghost use Rattle.vir_top.specs.Headline.{ReportPrinted};

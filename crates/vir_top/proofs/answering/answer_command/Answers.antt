@@ -1,6 +1,6 @@
 use Rattle.std.proofs.Common.{ap, refl}
 use Rattle.vir_files.proofs.CallLemmas.{performs_works}
-use Rattle.vir_top.specs.Command.{command_seen}
+use Rattle.vir_words.specs.Command.{command_seen}
 use Rattle.vir_top.proofs.answering.answer_command.Goals as goal
 
 pub returns-in-Listing-clause-performs : goal.returns-in-Listing-clause-performs

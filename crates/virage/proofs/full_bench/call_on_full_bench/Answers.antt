@@ -6,7 +6,7 @@ use Rattle.vir_term.specs.declared.score.Score.{Score}
 use Rattle.vir_term.specs.declared.score.Score.TheVariants as score
 use Rattle.vir_top.proofs.ServedLemmas.{never_eight}
 use Rattle.vir_top.specs.Calls.{AnswersWords, Calls}
-use Rattle.vir_top.specs.Command.{command_in}
+use Rattle.vir_words.specs.Command.{command_in}
 use Rattle.vir_top.specs.CommandCourses.{command_course}
 use Rattle.vir_top.specs.Delivery.{Delivers, sink}
 use Rattle.vir_top.specs.Printed.{IsDue, Printed, told_contents}

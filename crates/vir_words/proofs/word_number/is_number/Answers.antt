@@ -5,8 +5,8 @@ use Rattle.std.proofs.lemmas.Iterator.{YieldsList-from_slice}
 use Rattle.std.proofs.lemmas.Iterator.Search.{all_from_yields_List}
 use Rattle.std.specs.Char.{is_ascii_digit}
 use Rattle.std.specs.List.{list_all}
-use Rattle.vir_top.proofs.WordLemmas.{number_by_bytes}
-use Rattle.vir_top.proofs.word_number.is_number.Goals as goal
+use Rattle.vir_words.proofs.WordLemmas.{number_by_bytes}
+use Rattle.vir_words.proofs.word_number.is_number.Goals as goal
 
 pub returns-then-not-is_empty : goal.returns-then-not-is_empty
 returns-then-not-is_empty c =

@@ -1,7 +1,7 @@
 use Rattle.std.proofs.Common.{◌≡◌, true, arith}
-use Rattle.vir_top.specs.WordNumbers.{is_number}
-use Rattle.vir_top.proofs.WordLemmas.{number_inside, number_unread}
-use Rattle.vir_top.proofs.word_number.word_number.Goals as goal
+use Rattle.vir_words.specs.WordNumbers.{is_number}
+use Rattle.vir_words.proofs.WordLemmas.{number_inside, number_unread}
+use Rattle.vir_words.proofs.word_number.word_number.Goals as goal
 
 pub returns-then-number-high-clause-number : goal.returns-then-number-high-clause-number
 returns-then-number-high-clause-number c =

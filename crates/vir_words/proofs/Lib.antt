@@ -1,0 +1,5 @@
+pub mod WordLemmas
+pub mod ListLemmas
+pub mod PropLemmas
+pub mod LeafLemmas
+pub mod CommandLemmas

@@ -1,0 +1,5 @@
+use Rattle.vir_words.proofs.CommandLemmas.{in_range}
+use Rattle.vir_words.proofs.laws.commands_are_in_range.Goals as goal
+
+pub returns : goal.returns
+returns c = λ words command e. in_range words command e

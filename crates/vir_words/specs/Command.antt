@@ -1,0 +1,149 @@
+-- The command line.
+use Rattle.std.specs.Prelude.{ℕ, ◌≡◌, ◌≤◌, true, List, [], ◌∷◌, length, None, Some, codes, map, string_bytes}
+use Rattle.std.specs.Prelude.{if◌then◌else◌}
+use Rattle.std.specs.List.{AllByRecursion}
+use Rattle.std.specs.Str.{bytes_eq}
+use Rattle.std.specs.declared.option.Option.{Option}
+use Rattle.std.specs.declared.string.String.{String}
+use Rattle.vir_term.specs.declared.leaf.Leaf.{Leaf}
+use Rattle.vir_term.specs.declared.prop.Prop.{Prop}
+use Rattle.vir_term.specs.Limits.{IsWithinLimits}
+use Rattle.vir_term.specs.Tree.{leaf}
+use Rattle.vir_rules.specs.Named.{IsPropInRange}
+use Rattle.vir_mean.specs.declared.elimination.Elimination.{Elimination}
+use Rattle.vir_positional.specs.WeightLists.{are_weights}
+use Rattle.vir_words.specs.WordLeaves.{default_leaves, leaves_of}
+use Rattle.vir_words.specs.WordNumbers.{number_within}
+use Rattle.vir_words.specs.WordProps.{prop_of, props_of}
+use Rattle.vir_words.specs.WordWeights.{elimination_of, weights_of}
+use Rattle.vir_words.specs.declared.command.Command.{Command as Borrowed}
+use Rattle.vir_words.specs.declared.command.Command.TheVariants.{Count, Report, Prove, Check, Synth, Listing, Drill}
+use Rattle.vir_words.specs.declared.command.Command.TheVariants.{Position}
+
+-- a command
+pub data Command : Type 0 where
+  -- counts a profile with a rule, by the names of their files
+  count : List ℕ → List ℕ → Command
+  -- reports on a rule and a profile, by the names of their files
+  report : List ℕ → List ℕ → Command
+  -- proves a property of a rule, by the name of its file
+  prove : List ℕ → Prop → Command
+  -- checks a certificate, by the name of its file
+  check : List ℕ → Command
+  -- searches for a rule of at most this size that has these properties and is composed of these modules
+  synth : ℕ → List Prop → List Leaf → Command
+  -- prints the counting code of a rule, by the name of its file
+  listing : List ℕ → Command
+  -- counts a generated profile with the rules of drill, by its seed, its number of lines and its number of alternatives
+  drill : ℕ → ℕ → ℕ → Command
+  -- eliminates by the positional score of these weights on a profile, by the name of its file
+  position : List ℕ → Elimination → List ℕ → Command
+
+-- ---- the words of each command
+
+-- a proof of this property, where it is there
+abbrev pub prove_of : List ℕ → Option Prop → Option Command
+prove_of rule (Some prop) = Some (prove rule prop)
+prove_of rule None = None
+
+-- a search for these, where each is there
+abbrev pub synth_of : Option ℕ → Option (List Prop) → Option (List Leaf) → Option Command
+synth_of (Some size) (Some props) (Some leaves) = Some (synth size props leaves)
+synth_of (Some size) (Some props) None = None
+synth_of (Some size) None leaves = None
+synth_of None props leaves = None
+
+-- a search of these modules for what these words are
+abbrev pub synth_words : List ℕ → List ℕ → Option (List Leaf) → Option Command
+synth_words size props leaves = synth_of (number_within 1 15 size) (props_of props) leaves
+
+-- drill with these numbers, where each is there
+abbrev pub drill_of : Option ℕ → Option ℕ → Option ℕ → Option Command
+drill_of (Some seed) (Some lines) (Some alternatives) = Some (drill seed lines alternatives)
+drill_of (Some seed) (Some lines) None = None
+drill_of (Some seed) None alternatives = None
+drill_of None lines alternatives = None
+
+-- drill with the numbers that these words are, where each is one of its range
+abbrev pub drill_words : List ℕ → List ℕ → List ℕ → Option Command
+drill_words seed lines alternatives =
+    drill_of (number_within 0 18446744073709551615 seed) (number_within 1 100000 lines)
+    (number_within 1 128 alternatives)
+
+-- an eliminator by these weights, where each is there
+abbrev pub position_of : Option (List ℕ) → Option Elimination → List ℕ → Option Command
+position_of (Some weights) (Some kind) profile = Some (position weights kind profile)
+position_of (Some weights) None profile = None
+position_of None kind profile = None
+
+-- ---- commands by the number of their words
+
+-- the command of this name on one word, where there is one
+abbrev pub command_of_one : List ℕ → List ℕ → Option Command
+command_of_one name first =
+    if bytes_eq name (codes "check") then Some (check first)
+    else (if bytes_eq name (codes "listing") then Some (listing first) else None)
+
+-- the command of this name on two words
+abbrev pub command_of_two : List ℕ → List ℕ → List ℕ → Option Command
+command_of_two name first second =
+    if bytes_eq name (codes "count") then Some (count first second)
+    else (if bytes_eq name (codes "report") then Some (report first second)
+    else (if bytes_eq name (codes "prove") then prove_of first (prop_of second)
+    else (if bytes_eq name (codes "synth") then synth_words first second (Some default_leaves) else None)))
+
+-- the command of this name on three words
+abbrev pub command_of_three : List ℕ → List ℕ → List ℕ → List ℕ → Option Command
+command_of_three name first second third =
+    if bytes_eq name (codes "synth") then synth_words first second (leaves_of third)
+    else (if bytes_eq name (codes "drill") then drill_words first second third
+    else (if bytes_eq name (codes "position") then position_of (weights_of first) (elimination_of second) third
+    else None))
+
+-- the command that words are, by their bytes, where they are one
+abbrev pub command_of : List (List ℕ) → Option Command
+command_of [] = None
+command_of (name ∷ []) = None
+command_of (name ∷ first ∷ []) = command_of_one name first
+command_of (name ∷ first ∷ second ∷ []) = command_of_two name first second
+command_of (name ∷ first ∷ second ∷ third ∷ []) = command_of_three name first second third
+command_of (name ∷ first ∷ second ∷ third ∷ fourth ∷ rest) = None
+
+-- the command that words of the code are
+abbrev pub command_in : {Z : Type 0} → List (String Z) → Option Command
+command_in words = command_of (map string_bytes words)
+
+-- a command of the code, which borrows its names
+abbrev pub command_seen : Borrowed → Command
+command_seen (Count rule profile) = count rule.now profile.now
+command_seen (Report rule profile) = report rule.now profile.now
+command_seen (Prove rule prop) = prove rule.now prop
+command_seen (Check certificate) = check certificate.now
+command_seen (Synth size props leaves) = synth size props.items leaves.items
+command_seen (Listing rule) = listing rule.now
+command_seen (Drill seed lines alternatives) = drill seed lines alternatives
+command_seen (Position weights kind profile) = position weights kind profile.now
+
+-- ---- what a command is given
+
+-- A search is of 1 to 15 modules and compositions, for 1 to 32 properties, and of 1 to 64 modules.
+pub record IsSearchable (size : ℕ) (props : List Prop) (leaves : List Leaf) : Type 0 where
+  pub sized : 1 ≤ size
+  pub small : size ≤ 15
+  pub wanted : 1 ≤ length props
+  pub few_wanted : length props ≤ 32
+  pub each_prop : AllByRecursion IsPropInRange props
+  pub filled : 1 ≤ length leaves
+  pub few_leaves : length leaves ≤ 64
+  pub each_leaf : AllByRecursion (λ l. IsWithinLimits (leaf l)) leaves
+
+-- The numbers of a command are within its limits, and so are its properties and modules.
+abbrev pub IsInRange : Command → Type 0
+IsInRange (count rule profile) = Unit {0}
+IsInRange (report rule profile) = Unit {0}
+IsInRange (prove rule prop) = IsPropInRange prop
+IsInRange (check certificate) = Unit {0}
+IsInRange (synth size props leaves) = IsSearchable size props leaves
+IsInRange (listing rule) = Unit {0}
+IsInRange (drill seed lines alternatives) = (lines ≤ 100000) × (1 ≤ alternatives) × (alternatives ≤ 128)
+IsInRange (position weights kind profile) = are_weights weights ≡ true
