@@ -1,0 +1,9 @@
+pub mod Stability
+pub mod Violated
+pub mod Unviolated
+pub mod NoViolations
+pub mod AllMembers
+pub mod Candidates
+pub mod LiftedElections
+pub mod NoOther
+pub mod ExactVerdicts

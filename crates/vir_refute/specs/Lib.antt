@@ -1,0 +1,4 @@
+pub mod Cases
+pub mod Violations
+pub mod Judged
+pub mod ReasonNames
