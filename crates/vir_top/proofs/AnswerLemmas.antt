@@ -7,17 +7,15 @@ use Rattle.vir_course.specs.Works.{Works}
 use Rattle.vir_course.specs.declared.answer.Answer.{Answer}
 use Rattle.vir_course.specs.declared.stop.Stop.{Stop}
 use Rattle.vir_course.specs.declared.stop.Stop.TheVariants as stop
-use Rattle.vir_files.proofs.CallLemmas.{performs_nothing, performs_plain, performs_stop, performs_work}
-use Rattle.vir_files.proofs.RuleLemmas.{SeesTree}
+use Rattle.vir_files.proofs.CallLemmas.{performs_nothing, performs_plain, performs_stop, performs_work, performs_works}
 use Rattle.vir_files.specs.Contents.{Contents}
 use Rattle.vir_files.specs.Performs.{Performs}
-use Rattle.vir_files.specs.Readings.{RuleProfile, rule_and_profile_of, rule_at, rule_profile}
+use Rattle.vir_files.specs.Readings.{RuleProfile, rule_and_profile_of, rule_profile}
 use Rattle.vir_files.specs.Values.{SeesRuleProfile}
 use Rattle.vir_files.specs.declared.two_files.RuleAndProfile.{RuleAndProfile}
 use Rattle.vir_outside.specs.Shelf.{Files}
 use Rattle.vir_profile.specs.SocFiles.{File}
 use Rattle.vir_term.specs.declared.leaf.LeafKind.{LeafKind}
-use Rattle.vir_term.specs.declared.term.Term.{Term}
 use Rattle.vir_term.specs.Tree.{Tree, tree}
 use Rattle.vir_top.specs.Calls.{AnswersWords}
 use Rattle.vir_words.specs.Command.{Command}
@@ -53,29 +51,37 @@ module _ (files : Option Files) (rose untouched : Type 0) (selected : Bool) (res
         answer r
         (λ said sees. subst (λ (s : RuleProfile). Works (works_both old s) Tells old new answer) (sym sees) works)
 
-  -- ---- a rule file, and an answer by what it says
-  module _ (course : Tree → Course Wording) (rule : List ℕ) where
-    abbrev reads_rule : Contents → Course Tree
-    reads_rule contents = rule_at contents 0 rule
+  -- ---- one file, and an answer by what it says
+  module _ {A X : Type 0} (reads : Contents → Course A) (value : X → A) (course : A → Course Wording) where
+    abbrev Sees : A → X → Type 0
+    Sees a x = a ≡ value x
 
-    abbrev rule_course : Contents → Course Wording
-    rule_course contents = and_then (reads_rule contents) course
+    abbrev file_course : Contents → Course Wording
+    file_course contents = and_then (reads contents) course
 
     -- it isn't read
-    pub rule_stop : (bench : BenchView) (reason : Stop)
-        → Performs reads_rule SeesTree files rose ⊥ bench bench selected rest (Err reason)
-        → Performs rule_course Tells files rose untouched bench bench selected rest (Err reason)
-    rule_stop bench reason r =
-        performs_stop reads_rule course SeesTree Tells files rose untouched bench selected rest reason r
+    pub file_stop : (bench : BenchView) (reason : Stop)
+        → Performs reads Sees files rose ⊥ bench bench selected rest (Err reason)
+        → Performs file_course Tells files rose untouched bench bench selected rest (Err reason)
+    file_stop bench reason r =
+        performs_stop reads course Sees Tells files rose untouched bench selected rest reason r
 
     -- it is read, and answered by
-    pub rule_plain : (bench : BenchView) (term : Term) (answer : Result Answer Stop)
-        → Performs reads_rule SeesTree files rose ⊥ bench bench selected rest (Ok term)
-        → Follows Tells ⊥ (course (tree term)) [] answer
-        → Performs rule_course Tells files rose untouched bench bench selected rest answer
-    rule_plain bench term answer r follows =
-        performs_plain reads_rule course SeesTree Tells files rose untouched bench selected rest term answer r
-        (λ said sees. subst (λ (t : Tree). Follows Tells ⊥ (course t) [] answer) (sym sees) follows)
+    pub file_plain : (bench : BenchView) (x : X) (answer : Result Answer Stop)
+        → Performs reads Sees files rose ⊥ bench bench selected rest (Ok x)
+        → Follows Tells ⊥ (course (value x)) [] answer
+        → Performs file_course Tells files rose untouched bench bench selected rest answer
+    file_plain bench x answer r follows =
+        performs_plain reads course Sees Tells files rose untouched bench selected rest x answer r
+        (λ said sees. subst (λ (a : A). Follows Tells ⊥ (course a) [] answer) (sym sees) follows)
+
+  -- ---- no file, and an answer
+  pub plain_answer : (course : Course Wording) (bench : BenchView) (answer : Result Answer Stop) → untouched
+      → Follows Tells ⊥ course [] answer
+      → Performs (λ (contents : Contents). course) Tells files rose untouched bench bench selected rest answer
+  plain_answer course bench answer is follows =
+      performs_works course Tells files rose untouched bench bench selected rest answer is
+      (record { runs = []; follows = follows; bench = refl })
 
   -- ---- words whose reading wants memory
   pub answers_wanting : (command : Option Command) (bench : BenchView) → untouched

@@ -1,8 +1,9 @@
 -- A bench that serves every module is never told to lack a counter, whatever the shelf tells.
 use Rattle.std.proofs.Common.{◌≡◌, ◌⊎◌, ℕ, Bool, List, [], ◌∷◌, Option, None, Some, Result, Ok, Err, refl, ap, ◌∙◌}
 use Rattle.std.proofs.Common.{inl, inr, sym, subst, arith}
-use Rattle.vir_claims.specs.Claims.{listing_course}
-use Rattle.vir_counting.specs.Counting.{count_course, counting_course, report_course}
+use Rattle.vir_claims.specs.Claims.{check_course, listing_course, prove_course}
+use Rattle.vir_cert.specs.Certs.{Cert}
+use Rattle.vir_counting.specs.Counting.{count_course, counting_course, position_course, report_course}
 use Rattle.vir_counting.specs.DrillResults.{drill_terms, first_unserved_of}
 use Rattle.vir_course.specs.Courses.{Course, Follows, and_then, gives, go_on}
 use Rattle.vir_machine.specs.Runs.{BenchView, Run, served_by}
@@ -12,9 +13,10 @@ use Rattle.vir_course.specs.declared.answer.Answer.TheVariants as answer
 use Rattle.vir_course.specs.declared.stop.Stop.{Stop}
 use Rattle.vir_course.specs.declared.stop.Stop.TheVariants as stop
 use Rattle.vir_files.specs.Contents.{Contents}
-use Rattle.vir_files.specs.Files.{Kind, accept, judge, profiles, read_as, rules}
+use Rattle.vir_files.specs.Files.{Kind, accept, certificates, judge, profiles, read_as, rules}
 use Rattle.vir_files.specs.Performs.{Performs}
-use Rattle.vir_files.specs.Readings.{RuleProfile, profile_at, rule_and_profile_of, rule_at, rule_profile}
+use Rattle.vir_files.specs.Readings.{RuleProfile, certificate_at, profile_at, rule_and_profile_of, rule_at}
+use Rattle.vir_files.specs.Readings.{rule_profile}
 use Rattle.vir_machine.specs.Uses.{first_unserved, or_else}
 use Rattle.vir_outside.specs.Shelf.{Files}
 use Rattle.vir_profile.specs.SocFiles.{File}
@@ -22,7 +24,7 @@ use Rattle.vir_term.specs.declared.leaf.Leaf.{Leaf}
 use Rattle.vir_term.specs.declared.leaf.LeafKind.{LeafKind}
 use Rattle.vir_term.specs.Tree.{Tree}
 use Rattle.vir_top.specs.Calls.{AnswersWords, Calls, IsUsage}
-use Rattle.vir_words.specs.Command.{Command, count, drill, listing, report}
+use Rattle.vir_words.specs.Command.{Command, check, count, drill, listing, position, prove, report, synth}
 use Rattle.vir_top.specs.CommandCourses.{command_course}
 use Rattle.vir_top.specs.Delivery.{Delivers, SinkView}
 
@@ -57,13 +59,16 @@ read_never {A} {F} kind other name (Some bytes) text is = by (kind.says bytes) i
 rule_never : (contents : Contents) (place : ℕ) (name : List ℕ) → NeverLacks (rule_at contents place name)
 rule_never contents place name = read_never rules (λ fault text is. absurd cc) name (contents place name)
 
+profile_never : (contents : Contents) (place : ℕ) (name : List ℕ) → NeverLacks (profile_at contents place name)
+profile_never contents place name = read_never profiles (λ fault text is. absurd cc) name (contents place name)
+
 both_never : (contents : Contents) (rule profile : List ℕ) → NeverLacks (rule_and_profile_of contents rule profile)
 both_never contents rule profile =
     then_never (rule_at contents 0 rule)
     (λ (t : Tree). and_then (profile_at contents 1 profile) (λ (f : File). gives (rule_profile t f)))
     (rule_never contents 0 rule)
     (λ t. then_never (profile_at contents 1 profile) (λ (f : File). gives (rule_profile t f))
-    (read_never profiles (λ fault text is. absurd cc) profile (contents 1 profile))
+    (profile_never contents 1 profile)
     (λ f. gives_never (rule_profile t f)))
 
 counting_never : (unserved : Option Leaf) (runs : List Run) (wording : Wording) → unserved ≡ None
@@ -88,6 +93,17 @@ module _ (kinds : List (List LeafKind)) (served : (t : Tree) → first_unserved 
       (λ t text is. absurd cc)
   command_never (drill seed lines alternatives) contents =
       counting_never (first_unserved_of kinds drill_terms) _ _ (none_of drill_terms)
+  command_never (prove rule prop) contents =
+      then_never (rule_at contents 0 rule) (λ (t : Tree). prove_course t prop) (rule_never contents 0 rule)
+      (λ t text is. absurd cc)
+  command_never (check certificate) contents =
+      then_never (certificate_at contents 0 certificate) check_course
+      (read_never certificates (λ fault text is. absurd cc) certificate (contents 0 certificate))
+      (λ c text is. absurd cc)
+  command_never (synth size props modules) contents text is = absurd cc
+  command_never (position weights kind profile) contents =
+      then_never (profile_at contents 0 profile) (λ (f : File). position_course weights kind f)
+      (profile_never contents 0 profile) (λ f text is. absurd cc)
 
 -- ---- a call
 -- with status 8 the answer names a module

@@ -1,10 +1,10 @@
-//! The program over what is handed in: words, a shelf of files, two sinks, and a bench of counters.
+//! The program over what is handed in: the words of a command, a shelf of files, two sinks, and a bench of counters.
 //!
 //! The contract of the one public call, [`virage`], is one record (`specs/Calls.antt`): there are contents of
 //! the files that the words ask for, as far as the shelf tells them, whose course is performed; its steps are
 //! made on the bench and the shelf, and the answer that it leads to is delivered. What is printed and each
-//! status follow from that. It stands on `vir_words` for the command that the words are, on `vir_files` for readers of
-//! files, on `vir_counting` and `vir_claims` for the work of the commands, and on `vir_course` for what these say.
+//! status follow from that. It stands on `vir_words` for the words, on `vir_files` for readers of files, on
+//! `vir_counting` and `vir_claims` for the work of the commands, and on `vir_course` for what these say.
 #![tactic(auto)]
 
 mod answering;

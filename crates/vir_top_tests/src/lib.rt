@@ -8,7 +8,11 @@
 #[cfg(test)]
 mod calls;
 #[cfg(test)]
+mod claims;
+#[cfg(test)]
 mod devices;
+#[cfg(test)]
+mod positions;
 #[cfg(test)]
 mod reports;
 #[cfg(test)]
