@@ -6,6 +6,9 @@ use Rattle.vir_counter.specs.Calls.{risen}
 use Rattle.vir_machine.specs.Bench.{raised}
 use Rattle.vir_machine.specs.Uses.{uses}
 use Rattle.vir_mean.specs.Meaning.{mean}
+use Rattle.vir_mean.specs.declared.elimination.Elimination.{Elimination}
+use Rattle.vir_positional.specs.Positional.{positional_split}
+use Rattle.vir_positional.specs.declared.weight_form.WeightForm.{WeightForm}
 use Rattle.vir_profile.specs.declared.ballot.Entry.{Entry}
 use Rattle.vir_profile.specs.Profiles.{IsProfile, Votes, restrict}
 use Rattle.vir_profile.specs.SocFiles.{File}
@@ -33,6 +36,16 @@ pub split_of_whole : (t : Tree) (votes : Votes) (domain : Set) (lines : List Ent
     ≡ mean t (all votes.alternatives) votes.lines
 split_of_whole t votes domain lines split (here, whole) is = is ∙ ap (λ (d : Set). mean t d lines) here
     ∙ ap (mean t (all votes.alternatives)) whole
+
+-- what an eliminator by the weights of places gives
+pub positional_split_of_whole : (kind : Elimination) (kept weights : WeightForm) (votes : Votes) (domain : Set)
+    (lines : List Entry) (split : Split) → (domain ≡ all votes.alternatives) × (lines ≡ votes.lines) → kept ≡ weights
+    → split ≡ positional_split kind kept domain lines
+    → split ≡ positional_split kind weights (all votes.alternatives) votes.lines
+positional_split_of_whole kind kept weights votes domain lines split (here, whole) same is =
+    is ∙ ap (λ (w : WeightForm). positional_split kind w domain lines) same
+    ∙ ap (λ (d : Set). positional_split kind weights d lines) here
+    ∙ ap (positional_split kind weights (all votes.alternatives)) whole
 
 -- what it makes of the bench
 pub run_of_whole : (t : Tree) (votes : Votes) (domain : Set) (lines : List Entry) (old new : BenchView)
