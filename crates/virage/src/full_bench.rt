@@ -6,11 +6,11 @@ ghost use Rattle.vir_outside.specs.Faults.{Rose};
 ghost use Rattle.vir_outside.specs.Shelf.{Files};
 ghost use Rattle.vir_term.specs.Tree.{Tree};
 ghost use Rattle.vir_top.specs.Calls.{AnswersWords, Calls};
-ghost use Rattle.vir_words.specs.Command.{Command, command_in, report};
 ghost use Rattle.vir_top.specs.CommandCourses.{command_course};
 ghost use Rattle.vir_top.specs.Delivery.{Delivers, sink};
 ghost use Rattle.vir_top.specs.Headline.{ReportPrinted};
 ghost use Rattle.vir_top.specs.Printed.{IsDue, Printed, told_contents};
+ghost use Rattle.vir_words.specs.Command.{Command, command_in, report};
 ghost use Rattle.virage.specs.FullBench.{full_bench, full_kinds};
 
 use std::alloc::{AllocError, Global};

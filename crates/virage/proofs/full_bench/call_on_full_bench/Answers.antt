@@ -6,10 +6,10 @@ use Rattle.vir_term.specs.declared.score.Score.{Score}
 use Rattle.vir_term.specs.declared.score.Score.TheVariants as score
 use Rattle.vir_top.proofs.ServedLemmas.{never_eight}
 use Rattle.vir_top.specs.Calls.{AnswersWords, Calls}
-use Rattle.vir_words.specs.Command.{command_in}
 use Rattle.vir_top.specs.CommandCourses.{command_course}
 use Rattle.vir_top.specs.Delivery.{Delivers, sink}
 use Rattle.vir_top.specs.Printed.{IsDue, Printed, told_contents}
+use Rattle.vir_words.specs.Command.{command_in}
 use Rattle.virage.specs.FullBench.{full_bench}
 use Rattle.virage.proofs.FullBenchLemmas.{all_full, is_full, pushed}
 use Rattle.virage.proofs.full_bench.call_on_full_bench.Given as given
