@@ -1,8 +1,8 @@
 #!/usr/bin/env bash
-# Measures `check` on long and on hostile certificates: those of bench/certificates.py, and the one that `prove` prints with
-# the longest first derivation that is known. Prints a table as in bench/RESULTS.md. It ends with 1 where another answer is
-# given than is due, or where a check takes too much: of a valid certificate, and of 15 MB of derivation, 1 second of
-# processor or 300 MB; of any other 2 seconds or 600 MB.
+# Measures `check` on long and on hostile certificates: those of bench/certificates.py, and the one that `prove` prints
+# with the longest first derivation that is known. Prints a table as in bench/RESULTS.md. It ends with 1 where another
+# answer is given than is due, or where a check takes too much: of a valid certificate, and of 15 MB of derivation, 1
+# second of processor or 300 MB; of any other 2 seconds or 600 MB.
 # Usage: bench/check.sh [FOLDER], where FOLDER keeps the certificates.
 set -u
 . "$(dirname "$0")/common.sh"

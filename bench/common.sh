@@ -122,8 +122,9 @@ cost_of() {
   echo "$((10#${user/./} + 10#${system/./})) $(($(tail -n 1 "$room/peak") * 1024))"
 }
 
-# due_row CELLS ANSWER MILLISECONDS BYTES WORDS..: the row of a call whose first line has to be ANSWER, and which may take
-# less than these. It has three runs to keep to them, and the first that does is shown; `missed` keeps those that don't.
+# due_row CELLS ANSWER MILLISECONDS BYTES WORDS..: the row of a call whose first line has to be ANSWER, and which may
+# take less than these. It has three runs to keep to them, and the first that does is shown; `missed` keeps those that
+# don't.
 missed=()
 due_row() {
   local cells=$1 due=$2 most_milliseconds=$3 most_bytes=$4 try milliseconds peak answer

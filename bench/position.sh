@@ -1,8 +1,8 @@
 #!/usr/bin/env bash
-# Measures `position` beside `count`, reading included, on large profiles: with Borda's weights, which have to defer whom
-# `max(borda)` defers, with those of 2-approval and with those of the veto. Prints a table as in bench/RESULTS.md. It ends
-# with 1 where a result differs, or where `position` takes more instructions than `count` with `max(borda)`; valgrind and GNU
-# time have to be there.
+# Measures `position` beside `count`, reading included, on large profiles: with Borda's weights, which have to defer
+# whom `max(borda)` defers, with those of 2-approval and with those of the veto. Prints a table as in bench/RESULTS.md.
+# It ends with 1 where a result differs, or where `position` takes more instructions than `count` with `max(borda)`;
+# valgrind and GNU time have to be there.
 set -u
 . "$(dirname "$0")/common.sh"
 need_time

@@ -1,7 +1,8 @@
 #!/usr/bin/env bash
-# Has the program check what it proves: of each rule of the cookbook and of COUNT generated ones, each property that a report
-# tells of is proved, and each certificate that is printed is checked. Prints how many were proved, and accepted, and how
-# many denied. It ends with 1 where a certificate isn't accepted, or another answer comes than those two; each is named.
+# Has the program check what it proves: of each rule of the cookbook and of COUNT generated ones, each property that a
+# report tells of is proved, and each certificate that is printed is checked. Prints how many were proved, and
+# accepted, and how many denied. It ends with 1 where a certificate isn't accepted, or another answer comes than those
+# two; each is named.
 # Usage: bench/prove-and-check.sh [COUNT [SEED [JOBS]]], which are 2000, 1 and 4 where they aren't said.
 set -u
 . "$(dirname "$0")/common.sh"
@@ -50,8 +51,10 @@ lines_of() { grep -c "^$1" "$room/told"; }
 
 echo "| Rules | Properties asked for | Accepted, version 1 | Accepted, version 2 | Denied | Wrong |"
 echo "|---|---|---|---|---|---|"
-echo "| ${#rules[@]} | $(wc -l <"$room/told") | $(lines_of 'virage-certificate 1') | $(lines_of 'virage-certificate 2')" \
-  "| $(lines_of denied) | $(lines_of wrong) |"
+printf '|'
+printf ' %s |' "${#rules[@]}" "$(wc -l <"$room/told")" "$(lines_of 'virage-certificate 1')" \
+  "$(lines_of 'virage-certificate 2')" "$(lines_of denied)" "$(lines_of wrong)"
+echo
 if [ "$(wc -l <"$room/told")" -ne $((${#rules[@]} * ${#props[@]})) ]; then
   echo "bench: a job ended before its time" >&2
   exit 1

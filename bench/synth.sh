@@ -1,8 +1,8 @@
 #!/usr/bin/env bash
-# Measures `synth`: ten wishes up to the sizes 9, 12 and 15, of the 27 modules that are composed where none are named; and
-# the same sizes of 64 modules with many numbers or many fixed orders, for a wish that nothing has and for 32 properties.
-# Prints a table as in bench/RESULTS.md. It ends with 1 where another answer is given than is due, or where a search takes
-# too much: of 27 modules 0.2 seconds of processor or 20 MB, of 64 modules 8 seconds or 100 MB.
+# Measures `synth`: ten wishes up to the sizes 9, 12 and 15, of the 27 modules that are composed where none are named;
+# and the same sizes of 64 modules with many numbers or many fixed orders, for a wish that nothing has and for 32
+# properties. Prints a table as in bench/RESULTS.md. It ends with 1 where another answer is given than is due, or where
+# a search takes too much: of 27 modules 0.2 seconds of processor or 20 MB, of 64 modules 8 seconds or 100 MB.
 set -u
 . "$(dirname "$0")/common.sh"
 need_time
