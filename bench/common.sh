@@ -31,20 +31,25 @@ yardstick() {
   command -v rustc >/dev/null && rustc -O --edition 2021 "$@" "$top/bench/plain/main.rs" -o "$room/$name"
 }
 
-# measure PROGRAM: seconds, kilobytes and instructions of a call on the profile; its output goes to $room/said
-measure() {
+# measure_call PROGRAM WORDS..: seconds, kilobytes and instructions of a call; its output goes to $room/said
+measure_call() {
   local seconds=- peak=- instructions=-
   if [ -x /usr/bin/time ]; then
-    /usr/bin/time -o "$room/time" -f '%U %M' "$1" count "$room/rule" "$room/profile" >"$room/said" || return 1
+    /usr/bin/time -o "$room/time" -f '%U %M' "$@" >"$room/said" || return 1
     read -r seconds peak <"$room/time"
   else
-    "$1" count "$room/rule" "$room/profile" >"$room/said" || return 1
+    "$@" >"$room/said" || return 1
   fi
   if command -v valgrind >/dev/null; then
-    instructions=$(valgrind --tool=callgrind --callgrind-out-file=/dev/null "$1" count "$room/rule" "$room/profile" 2>&1 >/dev/null |
+    instructions=$(valgrind --tool=callgrind --callgrind-out-file=/dev/null "$@" 2>&1 >/dev/null |
       awk '/Collected/ { print $NF }')
   fi
   echo "$seconds $peak $instructions"
+}
+
+# measure PROGRAM: the same of counting the profile with the rule
+measure() {
+  measure_call "$1" count "$room/rule" "$room/profile"
 }
 
 # ratio A B: their quotient with two digits
@@ -100,3 +105,54 @@ head_of() {
 # the rules that are counted, each with its name
 names=('instant runoff' Borda Copeland Baldwin)
 rules=('seq(loop(1,min(plurality)),elect)' 'seq(max(borda),elect)' 'seq(max(copeland),elect)' 'seq(loop(1,min(borda)),elect)')
+
+# ---- calls that have to answer something within bars
+
+# call WORDS..: a call of the program in at most 30 seconds of processor; both its streams go to $room/said
+call() (
+  ulimit -c 0 -t 30
+  exec /usr/bin/time -o "$room/peak" -f %M "$program" "$@" >"$room/said" 2>&1
+)
+
+# cost_of WORDS..: milliseconds of processor and bytes of peak memory of such a call
+cost_of() {
+  local user system LC_ALL=C TIMEFORMAT='%3U %3S'
+  { time call "$@"; } 2>"$room/time"
+  read -r user system <"$room/time"
+  echo "$((10#${user/./} + 10#${system/./})) $(($(tail -n 1 "$room/peak") * 1024))"
+}
+
+# due_row CELLS ANSWER MILLISECONDS BYTES WORDS..: the row of a call whose first line has to be ANSWER, and which may
+# take less than these. It has three runs to keep to them, and the first that does is shown; `missed` keeps those that
+# don't.
+missed=()
+due_row() {
+  local cells=$1 due=$2 most_milliseconds=$3 most_bytes=$4 try milliseconds peak answer
+  shift 4
+  for try in 1 2 3; do
+    read -r milliseconds peak < <(cost_of "$@")
+    answer=$(head -n 1 "$room/said" | cut -c 1-100)
+    if [ "$answer" = "$due" ] && ((milliseconds < most_milliseconds && peak < most_bytes)); then break; fi
+    ((try < 3)) || missed+=("$cells")
+  done
+  printf '| %s | `%s` | %d.%03d | %d |\n' "$cells" "$answer" $((milliseconds / 1000)) $((milliseconds % 1000)) \
+    $((peak / 1000000))
+}
+
+# tell_missed: names what missed its bars, if anything, and is false then
+tell_missed() {
+  if [ ${#missed[@]} -eq 0 ]; then return 0; fi
+  {
+    echo "bench: these answered something else, or missed their bars:"
+    printf '  %s\n' "${missed[@]}"
+  } >&2
+  return 1
+}
+
+# need_time: stops where there is no GNU time
+need_time() {
+  if [ ! -x /usr/bin/time ]; then
+    echo "bench: there is no GNU time" >&2
+    exit 1
+  fi
+}
