@@ -1,3 +1,5 @@
 pub mod EquationLaws
 pub mod LoopedLoops
 pub mod SideLaws
+pub mod FittingEquations
+pub mod FirstSteps

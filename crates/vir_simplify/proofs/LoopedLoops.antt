@@ -15,7 +15,8 @@ use Rattle.vir_term.specs.Tree.{End, exactly, at_most}
 use Rattle.vir_mean.specs.Modules.{Meaning, all_deferred}
 use Rattle.vir_mean.specs.Compositions.{is_end, IsEnd, joined, loop_of}
 use Rattle.vir_mean.proofs.MeaningLaws.{Splits, turns-split}
-use Rattle.vir_mean.proofs.LoopLaws.{loop_of-few, loop_of-whole, loop_of-more, joined-all_deferred, split_of_all_deferred}
+use Rattle.vir_mean.proofs.LoopLaws.{loop_of-few, loop_of-whole, loop_of-more, joined-all_deferred}
+use Rattle.vir_mean.proofs.LoopLaws.{split_of_all_deferred}
 use Rattle.vir_mean.proofs.RestrictionLemmas.{restrict-restrict}
 
 ended : (k : End) (n : ℕ) → is_end k n ≡ true → IsEnd k n

@@ -8,5 +8,10 @@
 
 mod equation;
 pub mod laws;
+mod right_side;
+mod seeking;
+mod step;
 
 pub use equation::Equation;
+pub use seeking::next_step;
+pub use step::Step;

@@ -1,0 +1,35 @@
+-- What the parts of the code answer. Only clauses of private functions cite this.
+use Rattle.std.specs.Prelude.{◌≡◌, ℕ, ◌+◌, List, [], ◌++◌, All}
+use Rattle.std.specs.ControlFlow.{MatchControlFlow}
+use Rattle.std.specs.declared.ops.ControlFlow.{ControlFlow}
+use Rattle.vir_term.specs.Tree.{Tree, leaf, rev, seq, par, loop, tree, size}
+use Rattle.vir_simplify.specs.declared.right_side.RightSide.{RightSide}
+use Rattle.vir_simplify.specs.declared.right_side.RightSide.TheVariants.{Part, DeferAll, RejectAll, ToTheRight, ToTheLeft}
+use Rattle.vir_simplify.specs.declared.step.Step.{Step}
+use Rattle.vir_simplify.specs.Equations.{defer, nobody}
+use Rattle.vir_simplify.specs.Places.{Place, postorder}
+use Rattle.vir_simplify.specs.Steps.{IsReducible, IsFirstStep}
+
+-- the term that a right side stands for
+abbrev pub right_tree : RightSide → Tree
+right_tree (Part part) = tree part.now
+right_tree DeferAll = defer
+right_tree RejectAll = nobody
+right_tree (ToTheRight m n t) = seq (tree m.now) (seq (tree n.now) (tree t.now))
+right_tree (ToTheLeft m n t) = seq (seq (tree m.now) (tree n.now)) (tree t.now)
+
+-- the places within the parts of a term in postorder, where the first part has this number
+abbrev pub part_places : ℕ → Tree → List Place
+part_places n (leaf l) = []
+part_places n (rev part) = postorder n part
+part_places n (seq first second) = postorder n first ++ postorder (n + size first) second
+part_places n (par first second) = postorder n first ++ postorder (n + size first) second
+part_places n (loop k body) = postorder n body
+
+-- At none of the places an equation fits that makes the term smaller.
+abbrev pub HasNoStep : List Place → Type 0
+HasNoStep list = All (λ place. IsReducible place → ⊥) list
+
+-- The first step at these places; or that there is none, and the place behind them.
+abbrev pub IsSought : List Place → ℕ → ControlFlow Step ℕ → Type 0
+IsSought list behind answer = MatchControlFlow answer (λ next. (next ≡ behind) × HasNoStep list) (IsFirstStep list)
