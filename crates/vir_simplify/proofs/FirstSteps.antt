@@ -1,6 +1,7 @@
 -- First items of lists, and first steps of terms.
-use Rattle.std.proofs.Common.{◌≡◌, ℕ, ◌+◌, ◌<◌, List, [], ◌∷◌, ◌++◌, length, get_or, take, drop, All, Contains, refl, sym}
-use Rattle.std.proofs.Common.{ap, ◌∙◌, subst, append_assoc, arith, suc, true, false, Option, None, Some, MatchOption, is_some}
+use Rattle.std.proofs.Common.{◌≡◌, ℕ, ◌+◌, ◌<◌, List, [], ◌∷◌, ◌++◌, length, get_or, take, drop, All, Contains, refl}
+use Rattle.std.proofs.Common.{sym, ap, ◌∙◌, subst, append_assoc, arith, suc, true, false, Option, None, Some}
+use Rattle.std.proofs.Common.{MatchOption, is_some}
 use Rattle.std.proofs.Math.Seq.{drop-cons}
 use Rattle.std.proofs.lemmas.List.{take-append-drop, get_or_default}
 use Rattle.std.specs.ControlFlow.{MatchControlFlow}
@@ -43,8 +44,8 @@ module _ {A : Type 0} (P : A → Type 0) where
       → All (λ y. P y → ⊥) (take i xs) → IsFirst P xs (get_or items i d)
   first_found xs items i d same = subst (λ xs. i < length items → P (get_or items i d)
       → All (λ y. P y → ⊥) (take i xs) → IsFirst P xs (get_or items i d)) same
-      (λ inside holds none. first_at items i (get_or items i d) inside (get_or_default items i (get_or items i d) d inside)
-      holds none)
+      (λ inside holds none. first_at items i (get_or items i d) inside
+      (get_or_default items i (get_or items i d) d inside) holds none)
 
   pub first_left : (xs ys : List A) (x : A) → IsFirst P xs x → IsFirst P (xs ++ ys) x
   first_left xs ys x first = record {

@@ -3,3 +3,8 @@ pub mod LoopedLoops
 pub mod SideLaws
 pub mod FittingEquations
 pub mod FirstSteps
+pub mod Places
+pub mod Taking
+pub mod StepLaws
+pub mod NumberedPlaces
+pub mod Simplifications

@@ -32,8 +32,8 @@ pub record Place : Type 0 where
   pub number : ℕ
   pub subterm : Tree
 
--- The places of a term in postorder: those of its parts before its own, and of the first part before the second. Its own
--- is numbered n, and those within it as in preorder from there on.
+-- The places of a term in postorder: those of its parts before its own, and of the first part before the second. Its
+-- own is numbered n, and those within it as in preorder from there on.
 abbrev pub postorder : ℕ → Tree → List Place
 postorder n (leaf l) = record { number = n; subterm = leaf l } ∷ []
 postorder n (rev part) = postorder (n + 1) part ++ record { number = n; subterm = rev part } ∷ []

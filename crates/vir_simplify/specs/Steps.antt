@@ -47,7 +47,7 @@ IsShortest t = All (λ place. IsReducible place → ⊥) (places t)
 abbrev pub Simplifies : Tree → List Step → Tree → Type 0
 Simplifies one [] other = (one ≡ other) × IsShortest one
 Simplifies one (s ∷ rest) other =
-    IsNext one s × ((between : Tree) × Takes s.equation s.place one between × Simplifies between rest other)
+    (between : Tree) × IsNext one s × Takes s.equation s.place one between × Simplifies between rest other
 
 -- The term that comes of taking these steps in their order, each to a term within the limits.
 abbrev pub Replays : Tree → List Step → Tree → Type 0
