@@ -8,3 +8,4 @@ pub mod Taking
 pub mod StepLaws
 pub mod NumberedPlaces
 pub mod Simplifications
+pub mod OneSimplification

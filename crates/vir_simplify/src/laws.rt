@@ -1,11 +1,14 @@
 // What holds of the equations. Each law is the contract of a function that does nothing.
-ghost use Rattle.std.specs.Prelude.{◌≡◌, ℕ, All};
-ghost use Rattle.vir_term.specs.Tree.{Tree, rev, seq, par, loop, exactly, at_most};
+ghost use Rattle.std.specs.Prelude.{◌≡◌, ◌+◌, ◌≤◌, ℕ, List, Some, All, Contains, length};
+ghost use Rattle.vir_term.specs.Tree.{Tree, rev, seq, par, loop, exactly, at_most, size};
 ghost use Rattle.vir_mean.specs.Meaning.{mean};
 ghost use Rattle.vir_simplify.specs.Equations.{elect, defer, plurality, nobody, sides, Shrinks, shrinking};
 ghost use Rattle.vir_simplify.specs.Meanings.{MeanTheSame};
+ghost use Rattle.vir_simplify.specs.Places.{subterm_at, places};
+ghost use Rattle.vir_simplify.specs.Steps.{Takes, IsShortest, Simplifies, Replays};
 
 use crate::equation::Equation;
+use crate::step::Step;
 
 /// Where all alternatives are deferred first, the second rule decides on all of them.
 pub fn seq_defer_left()
@@ -105,4 +108,34 @@ pub fn equations_are_true()
 /// All equations but the last two make a term smaller, and no deeper.
 pub fn most_equations_make_terms_smaller()
     ensures { All Shrinks shrinking }
+{}
+
+/// A step keeps the meaning, whatever the place and the equation.
+pub fn steps_keep_the_meaning()
+    ensures { (e : Equation) (place : ℕ) (t u : Tree) → Takes e place t u → MeanTheSame t u }
+{}
+
+/// Steps lead to one term, or to none.
+pub fn replay_is_unique()
+    ensures { (t u v : Tree) (steps : List Step) → Replays t steps u → Replays t steps v → u ≡ v }
+{}
+
+/// Simplification ends in a term where no equation that makes it smaller fits, after fewer steps than the first
+/// term has modules and compositions.
+pub fn simplification_ends()
+    ensures shortest { (t u : Tree) (steps : List Step) → Simplifies t steps u → IsShortest u }
+    ensures few { (t u : Tree) (steps : List Step) → Simplifies t steps u → length steps + size u ≤ size t }
+{}
+
+/// A term is simplified in one way.
+pub fn simplification_is_unique()
+    ensures { (t u v : Tree) (steps others : List Step) → Simplifies t steps u → Simplifies t others v
+        → (steps ≡ others) × (u ≡ v) }
+{}
+
+/// The numbers of places in postorder are those of the subterms in preorder, and each subterm has its place.
+pub fn places_are_numbered_in_preorder()
+    ensures numbered { (t : Tree) → All (λ place. subterm_at t place.number ≡ Some place.subterm) (places t) }
+    ensures all { (t old : Tree) (i : ℕ) → subterm_at t i ≡ Some old
+        → Contains (places t) (record { number = i; subterm = old }) }
 {}
