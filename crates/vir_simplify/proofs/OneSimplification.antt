@@ -5,7 +5,7 @@ use Rattle.vir_term.specs.Tree.{Tree}
 use Rattle.vir_simplify.specs.declared.step.Step.{Step}
 use Rattle.vir_simplify.specs.Equations.{Fits, shrinking}
 use Rattle.vir_simplify.specs.Places.{Place, places}
-use Rattle.vir_simplify.specs.Steps.{Takes, IsFirst, IsReducible, IsNext, IsShortest, Simplifies, Replays}
+use Rattle.vir_simplify.specs.Steps.{Takes, IsFirst, IsReducible, IsNext, IsIrreducible, Simplifies, Replays}
 use Rattle.vir_simplify.proofs.FirstSteps.{first_contained}
 use Rattle.vir_simplify.proofs.Taking.{taken_alike}
 
@@ -40,19 +40,19 @@ next_alike t r s one other =
     one.is_first_equation) other.is_first_equation in
     λ i. record { place = number i; equation = equation i }
 
--- where a step can be taken, the term isn't a shortest one
-not_shortest : (t : Tree) (s : Step) → IsNext t s → IsShortest t → ⊥
-not_shortest t s next shortest =
-    All-contains (λ place. IsReducible place → ⊥) (places t) next.place shortest
+-- where there is a next step, it can't be that there is none
+not_irreducible : (t : Tree) (s : Step) → IsNext t s → IsIrreducible t → ⊥
+not_irreducible t s next none =
+    All-contains (λ place. IsReducible place → ⊥) (places t) next.place none
     (first_contained IsReducible (places t) next.place next.is_first_place) next.is_first_place.holds
 
 pub simplifies_alike : (some others : List Step) (t u v : Tree) → Simplifies t some u → Simplifies t others v
     → (some ≡ others) × (u ≡ v)
-simplifies_alike [] [] t u v (same, shortest) (other, so) = (refl, sym same ∙ other)
-simplifies_alike [] (s ∷ rest) t u v (same, shortest) (between, next, takes, more) =
-    absurd (not_shortest t s next shortest)
-simplifies_alike (r ∷ rest) [] t u v (between, next, takes, more) (same, shortest) =
-    absurd (not_shortest t r next shortest)
+simplifies_alike [] [] t u v (same, none) (other, so) = (refl, sym same ∙ other)
+simplifies_alike [] (s ∷ rest) t u v (same, none) (between, next, takes, more) =
+    absurd (not_irreducible t s next none)
+simplifies_alike (r ∷ rest) [] t u v (between, next, takes, more) (same, none) =
+    absurd (not_irreducible t r next none)
 simplifies_alike (r ∷ rest) (s ∷ others) t u v (one, next, takes, more) (two, then, leads, further) =
     let step : r ≡ s = next_alike t r s next then in
     let between : one ≡ two = taken_alike s.equation s.place t one two

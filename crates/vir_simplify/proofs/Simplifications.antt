@@ -8,7 +8,7 @@ use Rattle.vir_simplify.specs.declared.step.Step.{Step}
 use Rattle.vir_simplify.specs.Equations.{Fits, Shrinks, shrinking}
 use Rattle.vir_simplify.specs.Meanings.{MeanTheSame}
 use Rattle.vir_simplify.specs.Places.{Place, subterm_at, replaced, places}
-use Rattle.vir_simplify.specs.Steps.{Takes, IsReducible, IsNext, IsShortest, Simplifies, Replays}
+use Rattle.vir_simplify.specs.Steps.{Takes, IsReducible, IsNext, IsIrreducible, Simplifies, Replays}
 use Rattle.vir_simplify.proofs.FirstSteps.{first_contained}
 use Rattle.vir_simplify.proofs.NumberedPlaces.{places-numbered}
 use Rattle.vir_simplify.proofs.SideLaws.{shrinking-smaller}
@@ -39,7 +39,7 @@ next_shrinks t s next = All-contains Shrinks shrinking s.equation shrinking-smal
     (first_contained (λ e. Fits e next.place.subterm) shrinking s.equation next.is_first_equation)
 
 pub simplifies_means : (steps : List Step) (t u : Tree) → Simplifies t steps u → MeanTheSame t u
-simplifies_means [] t u (same, shortest) a p on = ap (λ t. mean t a p) same
+simplifies_means [] t u (same, none) a p on = ap (λ t. mean t a p) same
 simplifies_means (s ∷ rest) t u (between, next, takes, more) a p on =
     takes_means s.equation s.place t between takes a p on ∙ simplifies_means rest between u more a p on
 
@@ -51,7 +51,7 @@ pub record IsNoMore (steps : List Step) (t u : Tree) : Type 0 where
   pub in_range : IsInRange t → IsInRange u
 
 pub simplifies_less : (steps : List Step) (t u : Tree) → Simplifies t steps u → IsNoMore steps t u
-simplifies_less [] t u (same, shortest) =
+simplifies_less [] t u (same, none) =
     record {
       smaller = (let e : size u ≡ size t = ap size (sym same) in omega arith);
       no_deeper = (let e : nesting u ≡ nesting t = ap nesting (sym same) in omega arith);
@@ -79,7 +79,7 @@ within_still steps t u simplifies within =
 -- the steps of a simplification, replayed
 pub simplifies_replays : (steps : List Step) (t u : Tree) → Simplifies t steps u → IsWithinLimits t
     → Replays t steps u
-simplifies_replays [] t u (same, shortest) within = same
+simplifies_replays [] t u (same, none) within = same
 simplifies_replays (s ∷ rest) t u (between, next, takes, more) within =
     let step = takes_less s.equation s.place t between (next_shrinks t s next) takes in
     let still : IsWithinLimits between = record {
@@ -90,6 +90,6 @@ simplifies_replays (s ∷ rest) t u (between, next, takes, more) within =
     (between, takes, still, simplifies_replays rest between u more still)
 
 -- it ends where no equation makes the term smaller
-pub simplifies_shortest : (steps : List Step) (t u : Tree) → Simplifies t steps u → IsShortest u
-simplifies_shortest [] t u (same, shortest) = subst IsShortest same shortest
-simplifies_shortest (s ∷ rest) t u (between, next, takes, more) = simplifies_shortest rest between u more
+pub simplifies_fully : (steps : List Step) (t u : Tree) → Simplifies t steps u → IsIrreducible u
+simplifies_fully [] t u (same, none) = subst IsIrreducible same none
+simplifies_fully (s ∷ rest) t u (between, next, takes, more) = simplifies_fully rest between u more

@@ -9,7 +9,7 @@ use Rattle.vir_simplify.specs.Equations.{Fits, Rewrites}
 use Rattle.vir_simplify.specs.Places.{replaced}
 use Rattle.vir_simplify.specs.Steps.{Takes}
 use Rattle.vir_simplify.specs.Answers.{IsMissed, TakesTwo, IsMissedTwo}
-use Rattle.vir_simplify.proofs.Places.{subterm-whole, replaced-whole, place_below, in_first, in_second, put_first}
+use Rattle.vir_simplify.proofs.Places.{subterm-whole, place_below, in_first, in_second, put_first}
 use Rattle.vir_simplify.proofs.Places.{put_second}
 
 -- a place that isn't the term's own
@@ -17,39 +17,10 @@ later : (place : ℕ) → 1 ≤ place → suc (place - 1) ≡ place
 later place some = omega arith
 
 -- ---- the term itself
-pub takes_whole : (e : Equation) (t u : Tree) → Rewrites e t u → Takes e 0 t u
-takes_whole e t u rewrites = record {
-  old = t;
-  new = u;
-  stands = subterm-whole t;
-  rewrites = rewrites;
-  is = sym (replaced-whole t u);
-}
-
 pub missed_whole : (e : Equation) (t : Tree) → (Fits e t → ⊥) → IsMissed e 0 t Unfit
 missed_whole e t unfit = (t, subterm-whole t, unfit)
 
 -- ---- one part
-pub takes_rev : (e : Equation) (place : ℕ) (t u : Tree) → 1 ≤ place → Takes e (place - 1) t u
-    → Takes e place (rev t) (rev u)
-takes_rev e place t u some takes = subst (λ n. Takes e n (rev t) (rev u)) (later place some) (record {
-  old = takes.old;
-  new = takes.new;
-  stands = takes.stands;
-  rewrites = takes.rewrites;
-  is = ap rev takes.is;
-})
-
-pub takes_loop : (e : Equation) (place : ℕ) (k : End) (t u : Tree) → 1 ≤ place → Takes e (place - 1) t u
-    → Takes e place (loop k t) (loop k u)
-takes_loop e place k t u some takes = subst (λ n. Takes e n (loop k t) (loop k u)) (later place some) (record {
-  old = takes.old;
-  new = takes.new;
-  stands = takes.stands;
-  rewrites = takes.rewrites;
-  is = ap (loop k) takes.is;
-})
-
 pub missed_rev : (e : Equation) (place : ℕ) (t : Tree) (missed : Missed) → 1 ≤ place
     → IsMissed e (place - 1) t missed → IsMissed e place (rev t) missed
 missed_rev e place t Unfit some why = subst (λ n. IsMissed e n (rev t) Unfit) (later place some) why

@@ -1,5 +1,5 @@
 -- What the parts of the code answer. Only clauses of private functions cite this.
-use Rattle.std.specs.Prelude.{◌≡◌, ℕ, ◌+◌, List, [], ◌++◌, Some, All}
+use Rattle.std.specs.Prelude.{◌≡◌, ℕ, ◌+◌, List, [], ◌++◌, Some}
 use Rattle.std.specs.ControlFlow.{MatchControlFlow}
 use Rattle.std.specs.declared.ops.ControlFlow.{ControlFlow}
 use Rattle.vir_term.specs.Tree.{Tree, leaf, rev, seq, par, loop, tree, size}
@@ -12,7 +12,7 @@ use Rattle.vir_simplify.specs.declared.equation.Equation.{Equation}
 use Rattle.vir_simplify.specs.declared.step.Step.{Step}
 use Rattle.vir_simplify.specs.Equations.{defer, nobody, Fits}
 use Rattle.vir_simplify.specs.Places.{Place, subterm_at, postorder}
-use Rattle.vir_simplify.specs.Steps.{Takes, IsReducible, IsFirstStep}
+use Rattle.vir_simplify.specs.Steps.{Takes, HasNoStep, IsFirstStep}
 
 -- the term that a right side stands for
 abbrev pub right_tree : RightSide → Tree
@@ -29,10 +29,6 @@ part_places n (rev part) = postorder n part
 part_places n (seq first second) = postorder n first ++ postorder (n + size first) second
 part_places n (par first second) = postorder n first ++ postorder (n + size first) second
 part_places n (loop k body) = postorder n body
-
--- At none of the places an equation fits that makes the term smaller.
-abbrev pub HasNoStep : List Place → Type 0
-HasNoStep list = All (λ place. IsReducible place → ⊥) list
 
 -- The first step at these places; or that there is none, and the place behind them.
 abbrev pub IsSought : List Place → ℕ → ControlFlow Step ℕ → Type 0

@@ -39,13 +39,17 @@ pub record IsFirstStep (list : List Place) (s : Step) : Type 0 where
 abbrev pub IsNext : Tree → Step → Type 0
 IsNext t s = IsFirstStep (places t) s
 
--- No equation that makes the term smaller fits anywhere.
-abbrev pub IsShortest : Tree → Type 0
-IsShortest t = All (λ place. IsReducible place → ⊥) (places t)
+-- At none of these places an equation fits that makes the term smaller.
+abbrev pub HasNoStep : List Place → Type 0
+HasNoStep list = All (λ place. IsReducible place → ⊥) list
+
+-- A term has no step.
+abbrev pub IsIrreducible : Tree → Type 0
+IsIrreducible t = HasNoStep (places t)
 
 -- The term and the steps that come of taking the next step until there is none.
 abbrev pub Simplifies : Tree → List Step → Tree → Type 0
-Simplifies one [] other = (one ≡ other) × IsShortest one
+Simplifies one [] other = (one ≡ other) × IsIrreducible one
 Simplifies one (s ∷ rest) other =
     (between : Tree) × IsNext one s × Takes s.equation s.place one between × Simplifies between rest other
 

@@ -5,7 +5,7 @@ ghost use Rattle.vir_mean.specs.Meaning.{mean};
 ghost use Rattle.vir_simplify.specs.Equations.{elect, defer, plurality, nobody, sides, Shrinks, shrinking};
 ghost use Rattle.vir_simplify.specs.Meanings.{MeanTheSame};
 ghost use Rattle.vir_simplify.specs.Places.{subterm_at, places};
-ghost use Rattle.vir_simplify.specs.Steps.{Takes, IsShortest, Simplifies, Replays};
+ghost use Rattle.vir_simplify.specs.Steps.{Takes, IsIrreducible, Simplifies, Replays};
 
 use crate::equation::Equation;
 use crate::step::Step;
@@ -80,7 +80,7 @@ pub fn loop_loop()
     ensures { (k : ℕ) (m : Tree) → MeanTheSame (loop (exactly k) (loop (exactly k) m)) (loop (exactly k) m) }
 {}
 
-/// The same of loops that end at so many alternatives or fewer.
+/// So does one that ends at so many alternatives or fewer.
 pub fn until_defer()
     ensures { (k : ℕ) → mean (loop (at_most k) defer) ≡ mean defer }
 {}
@@ -123,7 +123,7 @@ pub fn replay_is_unique()
 /// Simplification ends in a term where no equation that makes it smaller fits, after fewer steps than the first
 /// term has modules and compositions.
 pub fn simplification_ends()
-    ensures shortest { (t u : Tree) (steps : List Step) → Simplifies t steps u → IsShortest u }
+    ensures irreducible { (t u : Tree) (steps : List Step) → Simplifies t steps u → IsIrreducible u }
     ensures few { (t u : Tree) (steps : List Step) → Simplifies t steps u → length steps + size u ≤ size t }
 {}
 

@@ -46,12 +46,28 @@ pub(crate) fn rewrite_at(
         (IsMissed equation place (tree term.now))) }
 {
     if place == 0 {
-        return rewrite(alloc, term, equation);
+        rewrite(alloc, term, equation)
+    } else {
+        rewrite_within(alloc, term, place, equation)
     }
+}
+
+// The same, where the place isn't the term's own.
+#[cycle(rewrite)]
+fn rewrite_within(
+    alloc: Global,
+    term: &Term,
+    place: u32,
+    equation: Equation,
+) -> Result<Result<Term, Missed>, AllocError>
+    requires { 1 ≤ place }
+    ensures { IfOk result (λ answer. MatchResult answer (λ new. Takes equation place (tree term.now) (tree new))
+        (IsMissed equation place (tree term.now))) }
+{
     match term {
         Term::Leaf(_) => Ok(Err(Missed::Behind(place - 1))),
-        Term::Rev(part) => match rewrite_at(alloc, part, place - 1, equation)? {
-            Ok(new) => Ok(Ok(Term::Rev(Box::new(alloc, new)?))),
+        Term::Rev(part) => match rewrite_part(alloc, part, place - 1, equation)? {
+            Ok(part) => Ok(Ok(Term::Rev(part))),
             Err(missed) => Ok(Err(missed)),
         },
         Term::Seq(first, second) => match rewrite_two(alloc, first, second, place, equation)? {
@@ -62,20 +78,32 @@ pub(crate) fn rewrite_at(
             Ok((first, second)) => Ok(Ok(Term::Par(first, second))),
             Err(missed) => Ok(Err(missed)),
         },
-        Term::Loop { k, body } => match rewrite_at(alloc, body, place - 1, equation)? {
-            Ok(new) => Ok(Ok(Term::Loop {
-                k: *k,
-                body: Box::new(alloc, new)?,
-            })),
+        Term::Loop { k, body } => match rewrite_part(alloc, body, place - 1, equation)? {
+            Ok(body) => Ok(Ok(Term::Loop { k: *k, body })),
             Err(missed) => Ok(Err(missed)),
         },
-        Term::Until { k, body } => match rewrite_at(alloc, body, place - 1, equation)? {
-            Ok(new) => Ok(Ok(Term::Until {
-                k: *k,
-                body: Box::new(alloc, new)?,
-            })),
+        Term::Until { k, body } => match rewrite_part(alloc, body, place - 1, equation)? {
+            Ok(body) => Ok(Ok(Term::Until { k: *k, body })),
             Err(missed) => Ok(Err(missed)),
         },
+    }
+}
+
+// What it makes of the only part of a term, applied at a place of that part.
+#[cycle(rewrite)]
+fn rewrite_part(
+    alloc: Global,
+    part: &Term,
+    place: u32,
+    equation: Equation,
+) -> Result<Result<Box<Term>, Missed>, AllocError>
+    ensures { IfOk result (λ answer. MatchResult answer
+        (λ new. Takes equation place (tree part.now) (tree new.value))
+        (IsMissed equation place (tree part.now))) }
+{
+    match rewrite_at(alloc, part, place, equation)? {
+        Ok(new) => Ok(Ok(Box::new(alloc, new)?)),
+        Err(missed) => Ok(Err(missed)),
     }
 }
 

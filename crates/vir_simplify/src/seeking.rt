@@ -5,7 +5,7 @@ ghost use Rattle.vir_term.specs.Tree.{tree, size};
 ghost use Rattle.vir_term.specs.Limits.{size_limit};
 ghost use Rattle.vir_simplify.specs.Equations.{Fits, shrinking};
 ghost use Rattle.vir_simplify.specs.Places.{postorder};
-ghost use Rattle.vir_simplify.specs.Steps.{IsFirst, IsNext, IsShortest};
+ghost use Rattle.vir_simplify.specs.Steps.{IsFirst, IsNext, IsIrreducible};
 ghost use Rattle.vir_simplify.specs.Answers.{IsSought, part_places};
 
 use crate::equation::Equation;
@@ -104,7 +104,7 @@ fn seek_in_two(first: &Term, second: &Term, place: u32) -> ControlFlow<Step, u32
 /// and by the first such equation. Places are numbered in preorder. It takes no memory.
 pub fn next_step(term: &Term) -> Option<Step>
     requires { size (tree term.now) ≤ size_limit }
-    ensures { MatchOption result (IsShortest (tree term.now)) (IsNext (tree term.now)) }
+    ensures { MatchOption result (IsIrreducible (tree term.now)) (IsNext (tree term.now)) }
 {
     match seek(term, 0) {
         ControlFlow::Break(step) => Some(step),

@@ -1,32 +1,28 @@
-use Rattle.std.proofs.Common.{◌≤◌, arith}
 use Rattle.vir_term.specs.Tree.{tree, exactly, at_most}
 use Rattle.vir_simplify.proofs.Taking.{missed_rev, missed_loop, takes_first, takes_second, missed_first, missed_second}
 use Rattle.vir_simplify.proofs.rewriting.+rewrite.Goals as goal
 
-pub rewrite_at-returns-in-Err : goal.rewrite_at-returns-in-Err
-rewrite_at-returns-in-Err t c =
-    let some : 1 ≤ c.args.place = omega arith in
-    let why = rw (c.in-Err.is, c.deref.ensures) at c.in_ok-new-in-Rev.ensures in
-    rw c.in-Rev.is (missed_rev c.args.equation c.args.place (tree c.in-Rev.part.value) c.in-Err.missed some why)
+pub rewrite_within-returns-in-Err : goal.rewrite_within-returns-in-Err
+rewrite_within-returns-in-Err t c =
+    let why = rw (c.in-Err.is, c.deref.ensures) at c.in_ok-part-in-Rev.ensures in
+    rw c.in-Rev.is (missed_rev c.args.equation c.args.place (tree c.in-Rev.part.value) c.in-Err.missed c.requires why)
 
-pub rewrite_at-returns-in-Err-3 : goal.rewrite_at-returns-in-Err-3
-rewrite_at-returns-in-Err-3 t c =
+pub rewrite_within-returns-in-Err-3 : goal.rewrite_within-returns-in-Err-3
+rewrite_within-returns-in-Err-3 t c =
     let why = rw (c.in-Err-3.is, c.deref-in-Par.ensures, c.deref-in-Par-2.ensures) at c.in_ok-first-in-Par.ensures in
     rw c.in-Par.is why.1
 
-pub rewrite_at-returns-in-Err-4 : goal.rewrite_at-returns-in-Err-4
-rewrite_at-returns-in-Err-4 t c =
-    let some : 1 ≤ c.args.place = omega arith in
-    let why = rw (c.in-Err-4.is, c.deref-in-Loop.ensures) at c.in_ok-new-in-Loop.ensures in
+pub rewrite_within-returns-in-Err-4 : goal.rewrite_within-returns-in-Err-4
+rewrite_within-returns-in-Err-4 t c =
+    let why = rw (c.in-Err-4.is, c.deref-in-Loop.ensures) at c.in_ok-body-in-Loop.ensures in
     rw c.in-Loop.is (missed_loop c.args.equation c.args.place (exactly c.in-Loop.k) (tree c.in-Loop.body.value)
-    c.in-Err-4.missed some why)
+    c.in-Err-4.missed c.requires why)
 
-pub rewrite_at-returns-in-Err-5 : goal.rewrite_at-returns-in-Err-5
-rewrite_at-returns-in-Err-5 t c =
-    let some : 1 ≤ c.args.place = omega arith in
-    let why = rw (c.in-Err-5.is, c.deref-in-Until.ensures) at c.in_ok-new-in-Until.ensures in
+pub rewrite_within-returns-in-Err-5 : goal.rewrite_within-returns-in-Err-5
+rewrite_within-returns-in-Err-5 t c =
+    let why = rw (c.in-Err-5.is, c.deref-in-Until.ensures) at c.in_ok-body-in-Until.ensures in
     rw c.in-Until.is (missed_loop c.args.equation c.args.place (at_most c.in-Until.k) (tree c.in-Until.body.value)
-    c.in-Err-5.missed some why)
+    c.in-Err-5.missed c.requires why)
 
 pub rewrite_two-returns-in-Err-Unfit : goal.rewrite_two-returns-in-Err-Unfit
 rewrite_two-returns-in-Err-Unfit t c =
