@@ -1,0 +1,11 @@
+pub mod EquationLaws
+pub mod LoopedLoops
+pub mod SideLaws
+pub mod FittingEquations
+pub mod FirstSteps
+pub mod Places
+pub mod Taking
+pub mod StepLaws
+pub mod NumberedPlaces
+pub mod Simplifications
+pub mod OneSimplification

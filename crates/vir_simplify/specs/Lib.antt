@@ -1,0 +1,6 @@
+pub mod Names
+pub mod Equations
+pub mod Meanings
+pub mod Places
+pub mod Steps
+pub mod Answers
