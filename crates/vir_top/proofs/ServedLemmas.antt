@@ -100,7 +100,7 @@ module _ (kinds : List (List LeafKind)) (served : (t : Tree) → first_unserved 
       then_never (certificate_at contents 0 certificate) check_course
       (read_never certificates (λ fault text is. absurd cc) certificate (contents 0 certificate))
       (λ c text is. absurd cc)
-  command_never (synth size props modules) contents text is = absurd cc
+  command_never (synth size props modules) contents = λ text is. absurd cc
   command_never (position weights kind profile) contents =
       then_never (profile_at contents 0 profile) (λ (f : File). position_course weights kind f)
       (profile_never contents 0 profile) (λ f text is. absurd cc)

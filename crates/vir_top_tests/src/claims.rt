@@ -15,7 +15,8 @@ const COPELAND: &[u8] = b"r = seq(max(copeland),elect);";
 
 const RUNOFF: &[u8] = b"r = seq(loop(1,min(plurality)),elect);";
 
-const MONO: &[u8] = b"virage-certificate 1\nterm seq(max(copeland),elect)\nproperty mono\nderivation \
+const MONO: &[u8] =
+    b"virage-certificate 1\nterm seq(max(copeland),elect)\nproperty mono\nderivation \
 mono-seq-ea(ne-leaf,dmono-leaf,ea-leaf)\n";
 
 const NEUTRAL: &[u8] =
@@ -35,9 +36,27 @@ const RUNOFF_UNDERIVED: &[u8] = b"underived mono
 const PROOFS: &[Row] = &[
     (&["prove", "rule.vir", "mono"], COPELAND, 0, MONO, b""),
     (&["prove", "rule.vir", "neut"], COPELAND, 0, NEUTRAL, b""),
-    (&["prove", "rule.vir", "dcc"], b"r = until(1,min(borda));", 0, UNTIL, b""),
-    (&["prove", "rule.vir", "mono"], RUNOFF, 1, RUNOFF_UNDERIVED, b""),
-    (&["prove", "rule.vir", "neut"], b"r = pass(1);", 1, b"underived neut\n- no rule\n", b""),
+    (
+        &["prove", "rule.vir", "dcc"],
+        b"r = until(1,min(borda));",
+        0,
+        UNTIL,
+        b"",
+    ),
+    (
+        &["prove", "rule.vir", "mono"],
+        RUNOFF,
+        1,
+        RUNOFF_UNDERIVED,
+        b"",
+    ),
+    (
+        &["prove", "rule.vir", "neut"],
+        b"r = pass(1);",
+        1,
+        b"underived neut\n- no rule\n",
+        b"",
+    ),
     (&["prove", "rule.vir", "mono"], b"", 3, b"", EMPTY),
     (&["prove", "other.vir", "mono"], ELECT, 5, b"", UNREAD),
     (&["prove", "rule.vir", "monotone"], ELECT, 2, b"", USAGE),
@@ -107,8 +126,14 @@ const MONO_DERIVED: &[u8] = b"mono-seq-ea(ne-leaf,dmono-leaf,ea-leaf)";
 // Another property in its place, and the line that says what is wrong.
 const OTHER_PROPERTIES: &[(&[u8], &[u8])] = &[
     (b"monotone", b"text refused: UnknownName at byte 60\n"),
-    (b"mono(1)", b"text refused: WrongCountOfArguments at byte 60\n"),
-    (b"defers", b"text refused: WrongCountOfArguments at byte 60\n"),
+    (
+        b"mono(1)",
+        b"text refused: WrongCountOfArguments at byte 60\n",
+    ),
+    (
+        b"defers",
+        b"text refused: WrongCountOfArguments at byte 60\n",
+    ),
     (b"defers(0)", b"text refused: BadNumber at byte 67\n"),
     (b"defers(elect)", b"text refused: WrongSort at byte 67\n"),
 ];
@@ -144,7 +169,13 @@ holds el el-seq-second(nb-leaf,el-leaf)
     (&["synth", "3", "el,", "elect"], ELECT, 2, b"", USAGE),
     (&["synth", "3", "el", "elect;"], ELECT, 2, b"", USAGE),
     (&["synth", "3", "el", "pass(1, [2])"], ELECT, 2, b"", USAGE),
-    (&["synth", "3", "el", "seq(elect,elect)"], ELECT, 2, b"", USAGE),
+    (
+        &["synth", "3", "el", "seq(elect,elect)"],
+        ELECT,
+        2,
+        b"",
+        USAGE,
+    ),
 ];
 
 // Each row comes to what it says.
@@ -179,7 +210,15 @@ fn expect_fault(rt: &HostRuntime, parts: &[&[u8]], line: &[u8]) -> Result<(), Al
 #[test]
 fn properties_of_certificates_are_judged(rt: HostRuntime) -> Result<(), AllocError> {
     for (property, line) in OTHER_PROPERTIES {
-        let parts: [&[u8]; 7] = [HEADER, TERM, PROPERTY, *property, DERIVATION, MONO_DERIVED, b"\n"];
+        let parts: [&[u8]; 7] = [
+            HEADER,
+            TERM,
+            PROPERTY,
+            *property,
+            DERIVATION,
+            MONO_DERIVED,
+            b"\n",
+        ];
         expect_fault(&rt, &parts, line)?;
     }
     Ok(())
@@ -187,14 +226,34 @@ fn properties_of_certificates_are_judged(rt: HostRuntime) -> Result<(), AllocErr
 
 #[test]
 fn texts_of_certificates_are_judged(rt: HostRuntime) -> Result<(), AllocError> {
-    expect_fault(&rt, &[MONO, b"x"], b"text refused: TrailingText at byte 116\n")?;
-    expect_fault(&rt, &[&MONO[..51]], b"text refused: Unexpected at byte 51\n")?;
-    let parts: [&[u8]; 6] = [HEADER, TERM, PROPERTY, b"mono", DERIVATION, b"mono-seq-xx(ne-leaf,dmono-leaf,ea-leaf)"];
+    expect_fault(
+        &rt,
+        &[MONO, b"x"],
+        b"text refused: TrailingText at byte 116\n",
+    )?;
+    expect_fault(
+        &rt,
+        &[&MONO[..51]],
+        b"text refused: Unexpected at byte 51\n",
+    )?;
+    let parts: [&[u8]; 6] = [
+        HEADER,
+        TERM,
+        PROPERTY,
+        b"mono",
+        DERIVATION,
+        b"mono-seq-xx(ne-leaf,dmono-leaf,ea-leaf)",
+    ];
     expect_fault(&rt, &parts, b"text refused: UnknownRule at byte 76\n")
 }
 
 // So many of a beginning round a middle, each closed.
-fn nested(alloc: Global, beginning: &[u8], count: usize, middle: &[u8]) -> Result<Vec<u8>, AllocError> {
+fn nested(
+    alloc: Global,
+    beginning: &[u8],
+    count: usize,
+    middle: &[u8],
+) -> Result<Vec<u8>, AllocError> {
     let mut text = Vec::new(alloc);
     for _ in 0..count {
         text.extend_from_slice(beginning)?;
@@ -210,10 +269,21 @@ fn nested(alloc: Global, beginning: &[u8], count: usize, middle: &[u8]) -> Resul
 fn nesting_has_its_limits(rt: HostRuntime) -> Result<(), AllocError> {
     for (count, line) in NESTED {
         let term = nested(rt.alloc(), b"rev(", *count, b"elect")?;
-        expect_fault(&rt, &[HEADER, &term, PROPERTY, b"mono", DERIVATION, MONO_DERIVED], line)?;
+        expect_fault(
+            &rt,
+            &[HEADER, &term, PROPERTY, b"mono", DERIVATION, MONO_DERIVED],
+            line,
+        )?;
     }
     let derivation = nested(rt.alloc(), b"ea-seq(", 256, b"ea-leaf")?;
-    let parts: [&[u8]; 6] = [HEADER, TERM, PROPERTY, b"mono", DERIVATION, derivation.as_slice()];
+    let parts: [&[u8]; 6] = [
+        HEADER,
+        TERM,
+        PROPERTY,
+        b"mono",
+        DERIVATION,
+        derivation.as_slice(),
+    ];
     expect_fault(&rt, &parts, b"text refused: TooDeep at byte 1868\n")
 }
 

@@ -3,7 +3,14 @@ use crate::calls::{DIVIDED, ELECT, SHORT, UNREAD, USAGE, expect_call, full_shelf
 use std::alloc::AllocError;
 
 // Weights, the kind of elimination, the contents of "votes.soc", and the status, the output and the error line.
-type Row = (&'static str, &'static str, &'static [u8], u8, &'static [u8], &'static [u8]);
+type Row = (
+    &'static str,
+    &'static str,
+    &'static [u8],
+    u8,
+    &'static [u8],
+    &'static [u8],
+);
 
 const THIRD_GOES: &[u8] = b"elected:\nrejected: 3\ndeferred: 1 2\n";
 
@@ -16,7 +23,14 @@ const ROWS: &[Row] = &[
     ("3,1,0", "upto", DIVIDED, 0, SECOND_STAYS, b""),
     ("3,1,0", "below", DIVIDED, 0, THIRD_GOES, b""),
     ("1", "max", DIVIDED, 0, ALL_STAY, b""),
-    ("1", "max", SHORT, 4, b"", b"profile refused: Short at line 2\n"),
+    (
+        "1",
+        "max",
+        SHORT,
+        4,
+        b"",
+        b"profile refused: Short at line 2\n",
+    ),
     ("0,1", "max", DIVIDED, 2, b"", USAGE),
     ("01", "max", DIVIDED, 2, b"", USAGE),
     ("1,", "max", DIVIDED, 2, b"", USAGE),

@@ -1,6 +1,6 @@
 use Rattle.std.proofs.Common.{ap, refl}
 use Rattle.vir_files.proofs.CallLemmas.{performs_works}
-use Rattle.vir_top.proofs.AnswerLemmas.{plain_answer}
+use Rattle.vir_top.proofs.AnswerLemmas.{plain_answer, synth_same}
 use Rattle.vir_words.specs.Command.{command_seen}
 use Rattle.vir_top.proofs.answering.answer_command.Goals as goal
 
@@ -19,7 +19,9 @@ returns-in-Check-clause-performs g c = rw (ap command_seen c.in-Check.is) (c.ans
 
 pub returns-in-Synth-clause-performs : goal.returns-in-Synth-clause-performs
 returns-in-Synth-clause-performs g c =
-    rw (ap command_seen c.in-Synth.is) (plain_answer _ _ _ _ _ _ _ _ refl c.synth.ensures)
+    rw (ap command_seen c.in-Synth.is)
+    (plain_answer _ _ _ _ _ _ _ _ refl
+    (synth_same c.in-Synth.size _ _ _ _ _ c.deref.ensures.value c.deref-in-Synth.ensures.value c.synth.ensures))
 
 pub returns-in-Position-clause-performs : goal.returns-in-Position-clause-performs
 returns-in-Position-clause-performs g c =
