@@ -12,8 +12,8 @@ or bytes), a Profile, or a list of weights and orders. What gives no answer rais
 What a call gives is what the program printed; of this module itself nothing is proved.
 """
 
-from .answers import Drill, Instruction, Report, Result, read_report
-from .commands import count, drill, listing, report
+from .answers import Certificate, Drill, Found, Instruction, Report, Result, Verdict, read_certificate, read_report
+from .commands import check, count, drill, listing, position, prove, report, synth
 from .derivations import Derivation, Finding, Holds, Reason, Underived
 from .faults import (
     Broken,
@@ -36,10 +36,12 @@ from .terms import Term
 __all__ = [
     "Broken",
     "BuildWarning",
+    "Certificate",
     "Derivation",
     "Drill",
     "Fault",
     "Finding",
+    "Found",
     "Holds",
     "Instruction",
     "Judgement",
@@ -60,12 +62,18 @@ __all__ = [
     "TextRefused",
     "Underived",
     "UsageFault",
+    "Verdict",
     "WriteFault",
+    "check",
     "count",
     "drill",
     "listing",
     "page",
+    "position",
+    "prove",
+    "read_certificate",
     "read_report",
     "report",
+    "synth",
     "table",
 ]

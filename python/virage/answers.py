@@ -3,7 +3,7 @@
 from __future__ import annotations
 
 from dataclasses import dataclass, field
-from typing import Dict, FrozenSet, Iterable, List, Mapping, Tuple, Union
+from typing import Dict, FrozenSet, Iterable, List, Mapping, Optional, Tuple, Union
 
 from .derivations import Derivation, Finding, Holds, Reason, Underived, read_reasons
 from .rules import Judgement, table
@@ -81,6 +81,37 @@ class Drill:
     voters: int
     alternatives: int
     elected: Mapping[Term, FrozenSet[int]]
+
+
+@dataclass(frozen=True)
+class Certificate:
+    """That a property holds of a term, with a derivation; `text` is what the program printed, and `check` takes."""
+
+    version: int
+    term: Term
+    property: str
+    derivation: Derivation
+    text: bytes = field(repr=False)
+
+
+@dataclass(frozen=True)
+class Verdict:
+    """What `check` says of a certificate. Where it isn't accepted, the first bad node, in preorder from 0, and why."""
+
+    accepted: bool
+    node: Optional[int] = None
+    why: Optional[str] = None
+
+    def __bool__(self) -> bool:
+        return self.accepted
+
+
+@dataclass(frozen=True)
+class Found:
+    """The first term that has the wanted properties, and the first derivation of each."""
+
+    term: Term
+    derivations: Mapping[str, Derivation]
 
 
 class Lines:
@@ -190,6 +221,52 @@ def read_drill(text: bytes) -> Drill:
 
 def _argument(word: str) -> Union[int, Term]:
     return int(word) if word.isdigit() else Term.read(word)
+
+
+def read_certificate(text: bytes) -> Certificate:
+    """A certificate as `prove` prints it. What it says of its derivation is true: that is looked at here too."""
+    lines = Lines(text)
+    version = int(lines.after("virage-certificate "))
+    term = Term.read(lines.after("term "))
+    property = lines.after("property ")
+    derivation = Derivation.read(lines.after("derivation "), Judgement(property, (term,)))
+    lines.end()
+    return Certificate(version, term, property, derivation, text)
+
+
+def read_proof(text: bytes) -> Union[Certificate, Underived]:
+    """What `prove` printed."""
+    lines = Lines(text)
+    if not lines.begins("underived "):
+        return read_certificate(text)
+    underived = read_underived(lines)
+    lines.end()
+    return underived
+
+
+def read_verdict(text: bytes) -> Verdict:
+    """What `check` printed."""
+    lines = Lines(text)
+    if lines.begins("accepted"):
+        verdict = Verdict(lines.after("accepted") == "")
+    else:
+        node, _, why = lines.after("refused node ").partition(": ")
+        verdict = Verdict(False, int(node), why)
+    lines.end()
+    return verdict
+
+
+def read_found(text: bytes) -> Optional[Found]:
+    """What `synth` printed: None where there is no such term."""
+    lines = Lines(text)
+    if lines.begins("none up to "):
+        return None
+    term = Term.read(lines.after("found "))
+    derivations = {}
+    while lines.more():
+        found = read_holds(lines, term)
+        derivations[found.property] = found.derivation
+    return Found(term, derivations)
 
 
 def _result(lines: Lines, names: Mapping[int, str]) -> Result:
