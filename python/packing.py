@@ -32,7 +32,8 @@ def metadata() -> Dict[str, bytes]:
 def modules() -> Dict[str, bytes]:
     """The files of the package, by their names in the wheel."""
     files = sorted(path for path in (HERE / "virage").iterdir() if path.is_file())
-    return {f"virage/{path.name}": path.read_bytes() for path in files}
+    page = HERE.parent / "docs" / "RULES.md"
+    return {f"virage/{path.name}": path.read_bytes() for path in [*files, page]}
 
 
 def build_wheel(

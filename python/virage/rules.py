@@ -1,4 +1,4 @@
-"""The rules of derivation and the properties, read from the page docs/RULES.md, which lies beside this module too.
+"""The rules of derivation and the properties, read from the page docs/RULES.md, which lies beside an installed module.
 
 Rules are matched with judgements here, so that each node of a derivation can be told what it concludes. What a word of
 the page stands for is what the page says: m and n are the parts of a term, t is the whole or the other term, k a number
@@ -15,7 +15,8 @@ from typing import Dict, List, Optional, Tuple, Union
 
 from .terms import Term, Tree, read_tree
 
-_PAGE = Path(__file__).with_name("RULES.md")
+_BESIDE = Path(__file__).with_name("RULES.md")
+_PAGE = _BESIDE if _BESIDE.is_file() else Path(__file__).resolve().parents[2] / "docs" / "RULES.md"
 
 _HEADING = re.compile(r"### .*: `([^`]*)`$")
 _RULE = re.compile(r'\| (\d+) \| <a id="[^"]*"></a>`([^`]*)` \| (.*?) \| ?(.*?) ?\|$')
