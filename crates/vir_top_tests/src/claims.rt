@@ -1,6 +1,7 @@
 // What is proved, checked and found: certificates, the faults of their texts, and first rules.
 use crate::calls::{DIVIDED, ELECT, EMPTY, UNREAD, USAGE, expect_call, full_shelf};
 use std::alloc::{AllocError, Global};
+use std::process::Abort;
 
 // Words, the contents of the file "rule.vir", and the status, the output and the error line of the call.
 type Row = (
@@ -179,32 +180,37 @@ holds el el-seq-second(nb-leaf,el-leaf)
 ];
 
 // Each row comes to what it says.
-fn expect_rows(rt: &HostRuntime, rows: &[Row]) -> Result<(), AllocError> {
+fn expect_rows(rt: &impl Abort, alloc: Global, rows: &[Row]) -> Result<(), AllocError> {
     for (words, rule, status, text, line) in rows {
-        let mut shelf = full_shelf(rt.alloc(), rule, DIVIDED)?;
-        expect_call(rt, rt.alloc(), words, &mut shelf, *status, text, line)?;
+        let mut shelf = full_shelf(alloc, rule, DIVIDED)?;
+        expect_call(rt, alloc, words, &mut shelf, *status, text, line)?;
     }
     Ok(())
 }
 
 #[test]
 fn rules_are_proved_to_have_properties(rt: HostRuntime) -> Result<(), AllocError> {
-    expect_rows(&rt, PROOFS)
+    expect_rows(&rt, rt.alloc(), PROOFS)
 }
 
 #[test]
 fn certificates_are_checked(rt: HostRuntime) -> Result<(), AllocError> {
-    expect_rows(&rt, CHECKS)
+    expect_rows(&rt, rt.alloc(), CHECKS)
 }
 
 // A certificate that is refused as a text.
-fn expect_fault(rt: &HostRuntime, parts: &[&[u8]], line: &[u8]) -> Result<(), AllocError> {
-    let mut text = Vec::new(rt.alloc());
+fn expect_fault(
+    rt: &impl Abort,
+    alloc: Global,
+    parts: &[&[u8]],
+    line: &[u8],
+) -> Result<(), AllocError> {
+    let mut text = Vec::new(alloc);
     for part in parts {
         text.extend_from_slice(part)?;
     }
-    let mut shelf = full_shelf(rt.alloc(), &text, DIVIDED)?;
-    expect_call(rt, rt.alloc(), CHECK, &mut shelf, 3, b"", line)
+    let mut shelf = full_shelf(alloc, &text, DIVIDED)?;
+    expect_call(rt, alloc, CHECK, &mut shelf, 3, b"", line)
 }
 
 #[test]
@@ -219,7 +225,7 @@ fn properties_of_certificates_are_judged(rt: HostRuntime) -> Result<(), AllocErr
             MONO_DERIVED,
             b"\n",
         ];
-        expect_fault(&rt, &parts, line)?;
+        expect_fault(&rt, rt.alloc(), &parts, line)?;
     }
     Ok(())
 }
@@ -228,11 +234,13 @@ fn properties_of_certificates_are_judged(rt: HostRuntime) -> Result<(), AllocErr
 fn texts_of_certificates_are_judged(rt: HostRuntime) -> Result<(), AllocError> {
     expect_fault(
         &rt,
+        rt.alloc(),
         &[MONO, b"x"],
         b"text refused: TrailingText at byte 116\n",
     )?;
     expect_fault(
         &rt,
+        rt.alloc(),
         &[&MONO[..51]],
         b"text refused: Unexpected at byte 51\n",
     )?;
@@ -244,7 +252,12 @@ fn texts_of_certificates_are_judged(rt: HostRuntime) -> Result<(), AllocError> {
         DERIVATION,
         b"mono-seq-xx(ne-leaf,dmono-leaf,ea-leaf)",
     ];
-    expect_fault(&rt, &parts, b"text refused: UnknownRule at byte 76\n")
+    expect_fault(
+        &rt,
+        rt.alloc(),
+        &parts,
+        b"text refused: UnknownRule at byte 76\n",
+    )
 }
 
 // So many of a beginning round a middle, each closed.
@@ -271,6 +284,7 @@ fn nesting_has_its_limits(rt: HostRuntime) -> Result<(), AllocError> {
         let term = nested(rt.alloc(), b"rev(", *count, b"elect")?;
         expect_fault(
             &rt,
+            rt.alloc(),
             &[HEADER, &term, PROPERTY, b"mono", DERIVATION, MONO_DERIVED],
             line,
         )?;
@@ -284,10 +298,15 @@ fn nesting_has_its_limits(rt: HostRuntime) -> Result<(), AllocError> {
         DERIVATION,
         derivation.as_slice(),
     ];
-    expect_fault(&rt, &parts, b"text refused: TooDeep at byte 1868\n")
+    expect_fault(
+        &rt,
+        rt.alloc(),
+        &parts,
+        b"text refused: TooDeep at byte 1868\n",
+    )
 }
 
 #[test]
 fn first_rules_are_found(rt: HostRuntime) -> Result<(), AllocError> {
-    expect_rows(&rt, SYNTHESES)
+    expect_rows(&rt, rt.alloc(), SYNTHESES)
 }
