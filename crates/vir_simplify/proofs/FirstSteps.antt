@@ -14,7 +14,7 @@ use Rattle.vir_simplify.specs.declared.step.Step.{Step}
 use Rattle.vir_simplify.specs.Equations.{Fits, Rewrites, shrinking}
 use Rattle.vir_simplify.specs.Places.{Place, postorder}
 use Rattle.vir_simplify.specs.Steps.{IsFirst, IsReducible, HasNoStep, IsFirstStep}
-use Rattle.vir_simplify.specs.Answers.{right_tree, part_places, IsSought}
+use Rattle.vir_simplify.specs.Workings.{right_tree, part_places, IsSought}
 use Rattle.vir_simplify.specs.declared.right_side.RightSide.{RightSide}
 
 -- a list, cut at an index

@@ -8,7 +8,7 @@ use Rattle.vir_simplify.specs.declared.rewriting.Missed.TheVariants.{Unfit, Behi
 use Rattle.vir_simplify.specs.Equations.{Fits, Rewrites}
 use Rattle.vir_simplify.specs.Places.{replaced}
 use Rattle.vir_simplify.specs.Steps.{Takes}
-use Rattle.vir_simplify.specs.Answers.{IsMissed, TakesTwo, IsMissedTwo}
+use Rattle.vir_simplify.specs.Workings.{IsMissed, TakesTwo, IsMissedTwo}
 use Rattle.vir_simplify.proofs.Places.{subterm-whole, place_below, in_first, in_second, put_first}
 use Rattle.vir_simplify.proofs.Places.{put_second}
 

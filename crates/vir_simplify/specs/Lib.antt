@@ -3,4 +3,4 @@ pub mod Equations
 pub mod Meanings
 pub mod Places
 pub mod Steps
-pub mod Answers
+pub mod Workings

@@ -3,7 +3,7 @@ ghost use Rattle.std.specs.Prelude.{◌≡◌, ◌≤◌, IfOk, MatchResult, Mat
 ghost use Rattle.vir_term.specs.Tree.{Tree, tree, seq};
 ghost use Rattle.vir_term.specs.Limits.{IsWithinLimits};
 ghost use Rattle.vir_simplify.specs.Steps.{Takes};
-ghost use Rattle.vir_simplify.specs.Answers.{IsMissed, TakesTwo, IsMissedTwo};
+ghost use Rattle.vir_simplify.specs.Workings.{IsMissed, TakesTwo, IsMissedTwo};
 
 use crate::equation::Equation;
 use crate::step::Step;

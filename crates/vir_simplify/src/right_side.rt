@@ -2,7 +2,7 @@
 ghost use Rattle.std.specs.Prelude.{◌≡◌, ◌↔◌, IsTrue, true, false, None, MatchOption, IfOk};
 ghost use Rattle.vir_term.specs.Tree.{Tree, tree, rev, seq, par, loop, exactly, at_most};
 ghost use Rattle.vir_simplify.specs.Equations.{elect, defer, plurality, nobody, Fits, Rewrites};
-ghost use Rattle.vir_simplify.specs.Answers.{right_tree};
+ghost use Rattle.vir_simplify.specs.Workings.{right_tree};
 
 use crate::equation::Equation;
 use std::alloc::{AllocError, Global};

@@ -6,7 +6,7 @@ ghost use Rattle.vir_term.specs.Limits.{size_limit};
 ghost use Rattle.vir_simplify.specs.Equations.{Fits, shrinking};
 ghost use Rattle.vir_simplify.specs.Places.{postorder};
 ghost use Rattle.vir_simplify.specs.Steps.{IsFirst, IsNext, IsIrreducible};
-ghost use Rattle.vir_simplify.specs.Answers.{IsSought, part_places};
+ghost use Rattle.vir_simplify.specs.Workings.{IsSought, part_places};
 
 use crate::equation::Equation;
 use crate::step::Step;

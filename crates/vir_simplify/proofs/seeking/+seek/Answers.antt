@@ -2,7 +2,7 @@ use Rattle.std.proofs.Common.{◌≡◌, ◌+◌, ℕ, subst, arith}
 use Rattle.vir_term.specs.Tree.{tree, size}
 use Rattle.vir_term.proofs.TreeLemmas.{size_positive}
 use Rattle.vir_simplify.specs.Places.{postorder}
-use Rattle.vir_simplify.specs.Answers.{IsSought}
+use Rattle.vir_simplify.specs.Workings.{IsSought}
 use Rattle.vir_simplify.proofs.FirstSteps.{sought_here, sought_in_parts, sought_behind}
 use Rattle.vir_simplify.proofs.seeking.+seek.Goals as goal
 

@@ -1,4 +1,4 @@
--- What the parts of the code answer. Only clauses of private functions cite this.
+-- How the code finds and takes steps. Only clauses of private functions cite this.
 use Rattle.std.specs.Prelude.{◌≡◌, ℕ, ◌+◌, List, [], ◌++◌, Some}
 use Rattle.std.specs.ControlFlow.{MatchControlFlow}
 use Rattle.std.specs.declared.ops.ControlFlow.{ControlFlow}
