@@ -7,14 +7,18 @@ use Rattle.std.specs.Result.{IfOk}
 use Rattle.std.specs.Str.{bytes_eq}
 use Rattle.vir_term.specs.declared.leaf.Leaf.{Leaf}
 use Rattle.vir_term.specs.declared.prop.Prop.{Prop}
+use Rattle.vir_term.specs.declared.prop.Prop.TheVariants.{Dli, Imono, Dimono, Dmono, Mono, Neut}
 use Rattle.vir_term.specs.Limits.{IsCount, IsLeafInRange, IsWithinLimits}
 use Rattle.vir_term.specs.Tree.{leaf}
 use Rattle.vir_rules.specs.Named.{IsPropInRange}
 use Rattle.vir_mean.specs.declared.elimination.Elimination.{Elimination}
 use Rattle.vir_positional.specs.WeightLists.{are_weights}
-use Rattle.vir_words.specs.Command.{Command, IsInRange, check, command_of, command_of_one, command_of_three}
-use Rattle.vir_words.specs.Command.{command_of_two, count, drill, drill_of, drill_words, listing, position, position_of}
-use Rattle.vir_words.specs.Command.{command_in, command_seen, prove, prove_of, report, synth, synth_of, synth_words}
+use Rattle.vir_refute.specs.Violations.{is_on_lifts}
+use Rattle.vir_words.specs.Command.{Command, IsForOneProfile, IsInRange, batch, check, command_in, command_of}
+use Rattle.vir_words.specs.Command.{command_of_five, command_of_one, command_of_three, command_of_two, command_seen}
+use Rattle.vir_words.specs.Command.{count, drill, drill_of, drill_words, is_on_one, listing, position, position_of}
+use Rattle.vir_words.specs.Command.{prove, prove_of, refute, refute_of, refute_pair, refute_pair_of, report, simplify}
+use Rattle.vir_words.specs.Command.{synth, synth_of, synth_words}
 use Rattle.vir_words.specs.WordLeaves.{default_leaves, leaf_of, leaves_of}
 use Rattle.vir_words.specs.WordLists.{comma, list_of, semicolon}
 use Rattle.vir_words.specs.WordNumbers.{number_within, plain_number}
@@ -228,13 +232,49 @@ position_in_range (Some list) None profile c weights e = nothing c e
 position_in_range (Some list) (Some kind) profile c weights e =
     just (position list kind profile) c (weights list refl) e
 
+-- a property of one election is neither neutrality nor one on lifts
+on_one : (p : Prop) → is_on_one p ≡ true → IsPropInRange p → IsForOneProfile p
+on_one Neut is range = absurd (cc)
+on_one Dli is range = absurd (cc)
+on_one Imono is range = absurd (cc)
+on_one Dimono is range = absurd (cc)
+on_one Dmono is range = absurd (cc)
+on_one Mono is range = absurd (cc)
+on_one p is range = record { not_on_lifts = refl; not_neutrality = λ e. absurd (cc); in_range = range }
+
+refute_in_range : (rule : List ℕ) (o : Option Prop) (profile : List ℕ) (c : Command)
+    → ((p : Prop) → o ≡ Some p → IsPropInRange p) → refute_of rule o profile ≡ Some c → IsInRange c
+refute_in_range rule None profile c is e = nothing c e
+refute_in_range rule (Some p) profile c is e = by_test (is_on_one p) refl e
+  where
+    by_test : (b : Bool) → is_on_one p ≡ b → cond b (Some (refute rule p profile)) None ≡ Some c → IsInRange c
+    by_test true one same = just (refute rule p profile) c (on_one p one (is p refl)) same
+    by_test false one same = nothing c same
+
+refute_pair_in_range : (rule : List ℕ) (o : Option Prop) (first second : List ℕ) (k : Option ℕ) (c : Command)
+    → ((lifted : ℕ) → k ≡ Some lifted → (1 ≤ lifted) × (lifted ≤ 1024))
+    → refute_pair_of rule o first second k ≡ Some c → IsInRange c
+refute_pair_in_range rule None first second k c lifted e = nothing c e
+refute_pair_in_range rule (Some p) first second None c lifted e = nothing c e
+refute_pair_in_range rule (Some p) first second (Some n) c lifted e = by_test (is_on_lifts p) refl e
+  where
+    by_test : (b : Bool) → is_on_lifts p ≡ b → cond b (Some (refute_pair rule p first second n)) None ≡ Some c
+        → IsInRange c
+    by_test true on same =
+        let within = lifted n refl in
+        just (refute_pair rule p first second n) c
+        (record { on_lifts = on; numbered = within.0; small = within.1 }) same
+    by_test false on same = nothing c same
+
 -- ---- by the number of words
 
 one_in_range : (name first : List ℕ) (c : Command) → command_of_one name first ≡ Some c → IsInRange c
 one_in_range name first c e =
     chosen (bytes_eq name (codes "check")) (Some (check first)) _ c (λ is. just (check first) c tt is)
-    (λ behind. chosen (bytes_eq name (codes "listing")) (Some (listing first)) None c
-    (λ is. just (listing first) c tt is) (λ is. nothing c is) behind) e
+    (λ others. chosen (bytes_eq name (codes "listing")) (Some (listing first)) _ c
+    (λ is. just (listing first) c tt is)
+    (λ last. chosen (bytes_eq name (codes "simplify")) (Some (simplify first)) None c
+    (λ is. just (simplify first) c tt is) (λ is. nothing c is) last) others) e
 
 two_in_range : (name first second : List ℕ) (c : Command) → command_of_two name first second ≡ Some c → IsInRange c
 two_in_range name first second c e =
@@ -243,9 +283,10 @@ two_in_range name first second c e =
     (λ is. just (report first second) c tt is)
     (λ more. chosen (bytes_eq name (codes "prove")) (prove_of first (prop_of second)) _ c
     (λ is. prove_in_range first (prop_of second) c (λ p word. word_is_in_range second p word) is)
-    (λ last. chosen (bytes_eq name (codes "synth")) (synth_words first second (Some default_leaves)) None c
+    (λ rest. chosen (bytes_eq name (codes "synth")) (synth_words first second (Some default_leaves)) _ c
     (λ is. synth_words_in_range first second (Some default_leaves) c (λ leaves same. defaults leaves same) is)
-    (λ is. nothing c is) last) more) others) e
+    (λ last. chosen (bytes_eq name (codes "batch")) (Some (batch first second)) None c
+    (λ is. just (batch first second) c tt is) (λ is. nothing c is) last) rest) more) others) e
   where
     defaults : (leaves : List Leaf) → Some default_leaves ≡ Some leaves → AreLeavesInRange leaves
     defaults leaves same = let one : default_leaves ≡ leaves = cc in subst AreLeavesInRange one defaults_are
@@ -259,11 +300,22 @@ three_in_range name first second third c e =
     (λ is. drill_in_range (number_within 0 18446744073709551615 first) (number_within 1 100000 second)
     (number_within 1 128 third) c (λ n word. number_is_within 1 100000 second n word)
     (λ n word. number_is_within 1 128 third n word) is)
-    (λ last. chosen (bytes_eq name (codes "position"))
-    (position_of (weights_of first) (elimination_of second) third) None c
+    (λ more. chosen (bytes_eq name (codes "position"))
+    (position_of (weights_of first) (elimination_of second) third) _ c
     (λ is. position_in_range (weights_of first) (elimination_of second) third c
     (λ list word. weights_are first list word) is)
-    (λ is. nothing c is) last) others) e
+    (λ last. chosen (bytes_eq name (codes "refute")) (refute_of first (prop_of second) third) None c
+    (λ is. refute_in_range first (prop_of second) third c (λ p word. word_is_in_range second p word) is)
+    (λ is. nothing c is) last) more) others) e
+
+five_in_range : (name first second third fourth fifth : List ℕ) (c : Command)
+    → command_of_five name first second third fourth fifth ≡ Some c → IsInRange c
+five_in_range name first second third fourth fifth c e =
+    chosen (bytes_eq name (codes "refute"))
+    (refute_pair_of first (prop_of second) third fourth (number_within 1 1024 fifth)) None c
+    (λ is. refute_pair_in_range first (prop_of second) third fourth (number_within 1 1024 fifth) c
+    (λ n word. number_is_within 1 1024 fifth n word) is)
+    (λ is. nothing c is) e
 
 pub in_range : (words : List (List ℕ)) (c : Command) → command_of words ≡ Some c → IsInRange c
 in_range [] c e = nothing c e
@@ -271,12 +323,15 @@ in_range (name ∷ []) c e = nothing c e
 in_range (name ∷ first ∷ []) c e = one_in_range name first c e
 in_range (name ∷ first ∷ second ∷ []) c e = two_in_range name first second c e
 in_range (name ∷ first ∷ second ∷ third ∷ []) c e = three_in_range name first second third c e
-in_range (name ∷ first ∷ second ∷ third ∷ fourth ∷ rest) c e = nothing c e
+in_range (name ∷ first ∷ second ∷ third ∷ fourth ∷ []) c e = nothing c e
+in_range (name ∷ first ∷ second ∷ third ∷ fourth ∷ fifth ∷ []) c e =
+    five_in_range name first second third fourth fifth c e
+in_range (name ∷ first ∷ second ∷ third ∷ fourth ∷ fifth ∷ sixth ∷ rest) c e = nothing c e
 
 -- ---- what the code reads
 
-if_in_range : (command : Option Borrowed) (words : List (List ℕ)) → option_map command_seen command ≡ command_of words
-    → IfSome command (λ c. IsInRange (command_seen c))
+pub if_in_range : (command : Option Borrowed) (words : List (List ℕ))
+    → option_map command_seen command ≡ command_of words → IfSome command (λ c. IsInRange (command_seen c))
 if_in_range None words told = tt
 if_in_range (Some c) words told = in_range words (command_seen c) (sym told)
 
@@ -291,10 +346,22 @@ too_few [] few = refl
 too_few (name ∷ []) few = refl
 too_few (name ∷ first ∷ rest) few = absurd (omega arith)
 
-pub too_many : {Z : Type 0} (words : List (String Z)) → 5 ≤ length words → None ≡ command_in words
+pub too_many : {Z : Type 0} (words : List (String Z)) → 7 ≤ length words → None ≡ command_in words
 too_many [] many = refl
 too_many (name ∷ []) many = refl
 too_many (name ∷ first ∷ []) many = absurd (omega arith)
 too_many (name ∷ first ∷ second ∷ []) many = absurd (omega arith)
 too_many (name ∷ first ∷ second ∷ third ∷ []) many = absurd (omega arith)
-too_many (name ∷ first ∷ second ∷ third ∷ fourth ∷ rest) many = refl
+too_many (name ∷ first ∷ second ∷ third ∷ fourth ∷ []) many = refl
+too_many (name ∷ first ∷ second ∷ third ∷ fourth ∷ fifth ∷ []) many = absurd (omega arith)
+too_many (name ∷ first ∷ second ∷ third ∷ fourth ∷ fifth ∷ sixth ∷ rest) many = refl
+
+-- no command has four words behind its name
+pub five_words : {Z : Type 0} (words : List (String Z)) → length words ≡ 5 → None ≡ command_in words
+five_words [] five = refl
+five_words (name ∷ []) five = refl
+five_words (name ∷ first ∷ []) five = absurd (omega arith)
+five_words (name ∷ first ∷ second ∷ []) five = absurd (omega arith)
+five_words (name ∷ first ∷ second ∷ third ∷ []) five = absurd (omega arith)
+five_words (name ∷ first ∷ second ∷ third ∷ fourth ∷ []) five = refl
+five_words (name ∷ first ∷ second ∷ third ∷ fourth ∷ fifth ∷ rest) five = absurd (omega arith)

@@ -1,24 +1,26 @@
 -- The command line.
-use Rattle.std.specs.Prelude.{ℕ, ◌≡◌, ◌≤◌, true, List, [], ◌∷◌, length, None, Some, codes, map, string_bytes}
-use Rattle.std.specs.Prelude.{if◌then◌else◌}
+use Rattle.std.specs.Prelude.{ℕ, ◌≡◌, ◌≢◌, ◌≤◌, Bool, true, false, List, [], ◌∷◌, length, None, Some, codes, map}
+use Rattle.std.specs.Prelude.{string_bytes, not, if◌then◌else◌}
 use Rattle.std.specs.List.{AllByRecursion}
 use Rattle.std.specs.Str.{bytes_eq}
 use Rattle.std.specs.declared.option.Option.{Option}
 use Rattle.std.specs.declared.string.String.{String}
 use Rattle.vir_term.specs.declared.leaf.Leaf.{Leaf}
 use Rattle.vir_term.specs.declared.prop.Prop.{Prop}
+use Rattle.vir_term.specs.declared.prop.Prop.TheVariants.{Neut}
 use Rattle.vir_term.specs.Limits.{IsWithinLimits}
 use Rattle.vir_term.specs.Tree.{leaf}
 use Rattle.vir_rules.specs.Named.{IsPropInRange}
 use Rattle.vir_mean.specs.declared.elimination.Elimination.{Elimination}
 use Rattle.vir_positional.specs.WeightLists.{are_weights}
+use Rattle.vir_refute.specs.Violations.{is_on_lifts}
 use Rattle.vir_words.specs.WordLeaves.{default_leaves, leaves_of}
 use Rattle.vir_words.specs.WordNumbers.{number_within}
 use Rattle.vir_words.specs.WordProps.{prop_of, props_of}
 use Rattle.vir_words.specs.WordWeights.{elimination_of, weights_of}
 use Rattle.vir_words.specs.declared.command.Command.{Command as Borrowed}
 use Rattle.vir_words.specs.declared.command.Command.TheVariants.{Count, Report, Prove, Check, Synth, Listing, Drill}
-use Rattle.vir_words.specs.declared.command.Command.TheVariants.{Position}
+use Rattle.vir_words.specs.declared.command.Command.TheVariants.{Position, Refute, RefutePair, Simplify, Batch}
 
 -- a command
 pub data Command : Type 0 where
@@ -38,6 +40,14 @@ pub data Command : Type 0 where
   drill : ℕ → ℕ → ℕ → Command
   -- eliminates by the positional score of these weights on a profile, by the name of its file
   position : List ℕ → Elimination → List ℕ → Command
+  -- judges whether a profile shows that a rule lacks a property, by the names of their files
+  refute : List ℕ → Prop → List ℕ → Command
+  -- the same of two profiles, the second of which is said to lift this alternative
+  refute_pair : List ℕ → Prop → List ℕ → List ℕ → ℕ → Command
+  -- shortens a rule, by the name of its file
+  simplify : List ℕ → Command
+  -- counts the profiles that a manifest names with a rule, by the names of their files
+  batch : List ℕ → List ℕ → Command
 
 -- ---- the words of each command
 
@@ -76,13 +86,31 @@ position_of (Some weights) (Some kind) profile = Some (position weights kind pro
 position_of (Some weights) None profile = None
 position_of None kind profile = None
 
+-- whether a property is of one election: neither neutrality nor one on lifts
+abbrev pub is_on_one : Prop → Bool
+is_on_one Neut = false
+is_on_one prop = not (is_on_lifts prop)
+
+-- a judgement on one profile, where the property is there and is of one election
+abbrev pub refute_of : List ℕ → Option Prop → List ℕ → Option Command
+refute_of rule (Some prop) profile = if is_on_one prop then Some (refute rule prop profile) else None
+refute_of rule None profile = None
+
+-- a judgement on two profiles, where the property and the alternative are there and the property is on lifts
+abbrev pub refute_pair_of : List ℕ → Option Prop → List ℕ → List ℕ → Option ℕ → Option Command
+refute_pair_of rule (Some prop) first second (Some lifted) =
+    if is_on_lifts prop then Some (refute_pair rule prop first second lifted) else None
+refute_pair_of rule (Some prop) first second None = None
+refute_pair_of rule None first second lifted = None
+
 -- ---- commands by the number of their words
 
 -- the command of this name on one word, where there is one
 abbrev pub command_of_one : List ℕ → List ℕ → Option Command
 command_of_one name first =
     if bytes_eq name (codes "check") then Some (check first)
-    else (if bytes_eq name (codes "listing") then Some (listing first) else None)
+    else (if bytes_eq name (codes "listing") then Some (listing first)
+    else (if bytes_eq name (codes "simplify") then Some (simplify first) else None))
 
 -- the command of this name on two words
 abbrev pub command_of_two : List ℕ → List ℕ → List ℕ → Option Command
@@ -90,7 +118,8 @@ command_of_two name first second =
     if bytes_eq name (codes "count") then Some (count first second)
     else (if bytes_eq name (codes "report") then Some (report first second)
     else (if bytes_eq name (codes "prove") then prove_of first (prop_of second)
-    else (if bytes_eq name (codes "synth") then synth_words first second (Some default_leaves) else None)))
+    else (if bytes_eq name (codes "synth") then synth_words first second (Some default_leaves)
+    else (if bytes_eq name (codes "batch") then Some (batch first second) else None))))
 
 -- the command of this name on three words
 abbrev pub command_of_three : List ℕ → List ℕ → List ℕ → List ℕ → Option Command
@@ -98,7 +127,13 @@ command_of_three name first second third =
     if bytes_eq name (codes "synth") then synth_words first second (leaves_of third)
     else (if bytes_eq name (codes "drill") then drill_words first second third
     else (if bytes_eq name (codes "position") then position_of (weights_of first) (elimination_of second) third
-    else None))
+    else (if bytes_eq name (codes "refute") then refute_of first (prop_of second) third else None)))
+
+-- the command of this name on five words, where there is one
+abbrev pub command_of_five : List ℕ → List ℕ → List ℕ → List ℕ → List ℕ → List ℕ → Option Command
+command_of_five name first second third fourth fifth =
+    if bytes_eq name (codes "refute")
+    then refute_pair_of first (prop_of second) third fourth (number_within 1 1024 fifth) else None
 
 -- the command that words are, by their bytes, where they are one
 abbrev pub command_of : List (List ℕ) → Option Command
@@ -107,7 +142,10 @@ command_of (name ∷ []) = None
 command_of (name ∷ first ∷ []) = command_of_one name first
 command_of (name ∷ first ∷ second ∷ []) = command_of_two name first second
 command_of (name ∷ first ∷ second ∷ third ∷ []) = command_of_three name first second third
-command_of (name ∷ first ∷ second ∷ third ∷ fourth ∷ rest) = None
+command_of (name ∷ first ∷ second ∷ third ∷ fourth ∷ []) = None
+command_of (name ∷ first ∷ second ∷ third ∷ fourth ∷ fifth ∷ []) =
+    command_of_five name first second third fourth fifth
+command_of (name ∷ first ∷ second ∷ third ∷ fourth ∷ fifth ∷ sixth ∷ rest) = None
 
 -- the command that words of the code are
 abbrev pub command_in : {Z : Type 0} → List (String Z) → Option Command
@@ -123,6 +161,10 @@ command_seen (Synth size props leaves) = synth size props.items leaves.items
 command_seen (Listing rule) = listing rule.now
 command_seen (Drill seed lines alternatives) = drill seed lines alternatives
 command_seen (Position weights kind profile) = position weights kind profile.now
+command_seen (Refute rule prop profile) = refute rule.now prop profile.now
+command_seen (RefutePair rule prop first second lifted) = refute_pair rule.now prop first.now second.now lifted
+command_seen (Simplify rule) = simplify rule.now
+command_seen (Batch rule manifest) = batch rule.now manifest.now
 
 -- ---- what a command is given
 
@@ -137,6 +179,18 @@ pub record IsSearchable (size : ℕ) (props : List Prop) (leaves : List Leaf) : 
   pub few_leaves : length leaves ≤ 64
   pub each_leaf : AllByRecursion (λ l. IsWithinLimits (leaf l)) leaves
 
+-- One profile is for a property in range that is neither on lifts nor neutrality.
+pub record IsForOneProfile (prop : Prop) : Type 0 where
+  pub not_on_lifts : is_on_lifts prop ≡ false
+  pub not_neutrality : prop ≢ Neut
+  pub in_range : IsPropInRange prop
+
+-- Two profiles are for a property on lifts, with an alternative from 1 to 1,024.
+pub record IsForTwoProfiles (prop : Prop) (lifted : ℕ) : Type 0 where
+  pub on_lifts : is_on_lifts prop ≡ true
+  pub numbered : 1 ≤ lifted
+  pub small : lifted ≤ 1024
+
 -- The numbers of a command are within its limits, and so are its properties and modules.
 abbrev pub IsInRange : Command → Type 0
 IsInRange (count rule profile) = Unit {0}
@@ -147,3 +201,7 @@ IsInRange (synth size props leaves) = IsSearchable size props leaves
 IsInRange (listing rule) = Unit {0}
 IsInRange (drill seed lines alternatives) = (lines ≤ 100000) × (1 ≤ alternatives) × (alternatives ≤ 128)
 IsInRange (position weights kind profile) = are_weights weights ≡ true
+IsInRange (refute rule prop profile) = IsForOneProfile prop
+IsInRange (refute_pair rule prop first second lifted) = IsForTwoProfiles prop lifted
+IsInRange (simplify rule) = Unit {0}
+IsInRange (batch rule manifest) = Unit {0}

@@ -47,4 +47,27 @@ pub enum Command<'a> {
         kind: Elimination,
         profile: &'a str,
     },
+    /// Judges whether the profile shows that the rule lacks the property.
+    Refute {
+        rule: &'a str,
+        prop: Prop,
+        profile: &'a str,
+    },
+    /// The same of two profiles, the second of which is said to lift an alternative.
+    RefutePair {
+        rule: &'a str,
+        prop: Prop,
+        first: &'a str,
+        second: &'a str,
+        lifted: u16,
+    },
+    /// Shortens the rule.
+    Simplify {
+        rule: &'a str,
+    },
+    /// Counts the profiles that the manifest names, with the rule.
+    Batch {
+        rule: &'a str,
+        manifest: &'a str,
+    },
 }

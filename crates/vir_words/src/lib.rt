@@ -5,13 +5,14 @@
 //! command holds is within the limits of what it asks for. A property, a module or a weight is a word just where it
 //! is written as it is printed; that each one that is printed is such a word is a law (`laws.rt`). It stands on
 //! `vir_rules` and `vir_book`, which read properties and modules, on `vir_positional` and `vir_mean` for weights
-//! and eliminators, and on `itoa` for the digits of numbers.
+//! and eliminators, on `vir_refute` for which properties are on lifts, and on `itoa` for the digits of numbers.
 #![tactic(auto)]
 
 mod command;
 mod default_leaves;
 mod laws;
 mod reading;
+mod refutation;
 mod word_leaf;
 mod word_lists;
 mod word_number;

@@ -1,13 +1,15 @@
 // The words of the command line, read.
 ghost use Rattle.std.specs.Prelude.{◌≡◌, IfOk, IfSome, Some, option_map};
-ghost use Rattle.vir_words.specs.Command.{IsInRange, command_in, command_of_one, command_of_three, command_of_two};
-ghost use Rattle.vir_words.specs.Command.{command_seen, drill_words, position_of, prove_of, synth_words};
+ghost use Rattle.vir_words.specs.Command.{IsInRange, command_in, command_of_five, command_of_one, command_of_three};
+ghost use Rattle.vir_words.specs.Command.{command_of_two, command_seen, drill_words, position_of, prove_of};
+ghost use Rattle.vir_words.specs.Command.{synth_words};
 ghost use Rattle.vir_words.specs.WordLeaves.{leaves_of};
 ghost use Rattle.vir_words.specs.WordProps.{prop_of};
 ghost use Rattle.vir_words.specs.WordWeights.{elimination_of, weights_of};
 
 use crate::command::Command;
 use crate::default_leaves::default_leaves;
+use crate::refutation::{read_refute, read_refute_pair};
 use crate::word_lists::{word_leaves, word_props, word_weights};
 use crate::word_number::word_number;
 use crate::word_prop::word_prop;
@@ -117,6 +119,7 @@ fn read_one<'a>(name: &str, first: &'a str) -> Option<Command<'a>>
     match name {
         "check" => Some(Command::Check { certificate: first }),
         "listing" => Some(Command::Listing { rule: first }),
+        "simplify" => Some(Command::Simplify { rule: first }),
         _ => None,
     }
 }
@@ -144,6 +147,10 @@ fn read_two<'a>(
             let leaves = default_leaves(alloc)?;
             read_synth(alloc, first, second, leaves)
         }
+        "batch" => Ok(Some(Command::Batch {
+            rule: first,
+            manifest: second,
+        })),
         _ => Ok(None),
     }
 }
@@ -180,7 +187,26 @@ fn read_three<'a>(
         "synth" => read_synth_of(alloc, first, second, third),
         "drill" => Ok(read_drill(first, second, third)),
         "position" => read_position(alloc, first, second, third),
+        "refute" => Ok(read_refute(first, second, third)),
         _ => Ok(None),
+    }
+}
+
+// The command of this name on five words, where there is one.
+fn read_five<'a>(
+    name: &str,
+    first: &'a str,
+    second: &str,
+    third: &'a str,
+    fourth: &'a str,
+    fifth: &str,
+) -> Option<Command<'a>>
+    ensures { option_map command_seen result
+        ≡ command_of_five name.now first.now second.now third.now fourth.now fifth.now }
+{
+    match name {
+        "refute" => read_refute_pair(first, second, third, fourth, fifth),
+        _ => None,
     }
 }
 
@@ -194,6 +220,9 @@ pub fn read_words(alloc: Global, words: &[String]) -> Result<Option<Command<'_>>
         [name, first] => Ok(read_one(name, first)),
         [name, first, second] => read_two(alloc, name, first, second),
         [name, first, second, third] => read_three(alloc, name, first, second, third),
+        [name, first, second, third, fourth, fifth] => {
+            Ok(read_five(name, first, second, third, fourth, fifth))
+        }
         _ => Ok(None),
     }
 }

@@ -18,6 +18,14 @@ const FILES: &[Row] = &[
     (&["check"], ""),
     (&["check", "c.cert", "more"], ""),
     (&["--help", "check"], ""),
+    (&["simplify", "r.vir"], "simplify r.vir"),
+    (&["simplify"], ""),
+    (&["simplify", "r.vir", "more"], ""),
+    (&["batch", "r.vir", "names"], "batch r.vir names"),
+    (&["batch", "r.vir"], ""),
+    (&["batch", "r.vir", "names", "more"], ""),
+    (&["count", "r.vir", "p.soc", "q.soc", "more"], ""),
+    (&["count", "r.vir", "p.soc", "q.soc", "s.soc", "1"], ""),
 ];
 
 #[test]

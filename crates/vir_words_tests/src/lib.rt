@@ -12,6 +12,8 @@ mod laws;
 #[cfg(test)]
 mod long_lists;
 #[cfg(test)]
+mod refutations;
+#[cfg(test)]
 mod searches;
 #[cfg(test)]
 mod told;

@@ -68,6 +68,31 @@ fn push_prove(text: &mut Vec<u8>, rule: &str, prop: Prop) -> Result<(), AllocErr
     push_props(text, &[prop])
 }
 
+fn push_refute(
+    text: &mut Vec<u8>,
+    rule: &str,
+    prop: Prop,
+    profile: &str,
+) -> Result<(), AllocError> {
+    push_one(text, "refute", rule)?;
+    push_props(text, &[prop])?;
+    push_name(text, profile)
+}
+
+fn push_refute_pair(
+    text: &mut Vec<u8>,
+    rule: &str,
+    prop: Prop,
+    first: &str,
+    second: &str,
+    lifted: u16,
+) -> Result<(), AllocError> {
+    push_refute(text, rule, prop, first)?;
+    push_name(text, second)?;
+    text.extend_from_slice(b" lifts ")?;
+    push_number(text, u64::from(lifted))
+}
+
 fn push_position(
     text: &mut Vec<u8>,
     weights: &Weights,
@@ -114,19 +139,15 @@ fn name_of(kind: Elimination) -> &'static str {
     }
 }
 
-// The command with what it holds.
-fn push_command(text: &mut Vec<u8>, command: &Command) -> Result<(), AllocError> {
+// A command of more than names of files.
+fn push_asked(text: &mut Vec<u8>, command: &Command) -> Result<(), AllocError> {
     match command {
-        Command::Count { rule, profile } => push_two(text, "count", rule, profile),
-        Command::Report { rule, profile } => push_two(text, "report", rule, profile),
         Command::Prove { rule, prop } => push_prove(text, rule, *prop),
-        Command::Check { certificate } => push_one(text, "check", certificate),
         Command::Synth {
             size,
             props,
             leaves,
         } => push_synth(text, *size, props, leaves),
-        Command::Listing { rule } => push_one(text, "listing", rule),
         Command::Drill {
             seed,
             lines,
@@ -137,6 +158,32 @@ fn push_command(text: &mut Vec<u8>, command: &Command) -> Result<(), AllocError>
             kind,
             profile,
         } => push_position(text, weights, *kind, profile),
+        Command::Refute {
+            rule,
+            prop,
+            profile,
+        } => push_refute(text, rule, *prop, profile),
+        Command::RefutePair {
+            rule,
+            prop,
+            first,
+            second,
+            lifted,
+        } => push_refute_pair(text, rule, *prop, first, second, *lifted),
+        _ => Ok(()),
+    }
+}
+
+// The command with what it holds.
+fn push_command(text: &mut Vec<u8>, command: &Command) -> Result<(), AllocError> {
+    match command {
+        Command::Count { rule, profile } => push_two(text, "count", rule, profile),
+        Command::Report { rule, profile } => push_two(text, "report", rule, profile),
+        Command::Check { certificate } => push_one(text, "check", certificate),
+        Command::Listing { rule } => push_one(text, "listing", rule),
+        Command::Simplify { rule } => push_one(text, "simplify", rule),
+        Command::Batch { rule, manifest } => push_two(text, "batch", rule, manifest),
+        _ => push_asked(text, command),
     }
 }
 
