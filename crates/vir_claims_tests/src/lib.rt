@@ -1,5 +1,5 @@
-//! The tests of `vir_claims`, in a crate of their own: what `prove`, `check`, `synth` and `refute` answer for small
-//! rules.
+//! The tests of `vir_claims`, in a crate of their own: what `prove`, `check`, `synth`, `refute` and `simplify`
+//! answer for small rules.
 //!
 //! There is no code but the tests, so the crate has no contract, and `vir_claims` is proved without them.
 //! It stands on `vir_claims`, on `vir_course` for answers, on `vir_cert` for certificates, on `vir_refute` and
@@ -14,5 +14,7 @@ mod cases;
 mod expected;
 #[cfg(test)]
 mod rules;
+#[cfg(test)]
+mod simple_rules;
 #[cfg(test)]
 mod votes;
