@@ -1,10 +1,11 @@
--- The courses of the commands that say something of a rule alone. None makes a run.
+-- The courses of the commands that say something of a rule, and run it on no bench.
 use Rattle.std.specs.Prelude.{ℕ, List}
 use Rattle.vir_cert.specs.Certs.{Cert}
 use Rattle.vir_code.specs.Code.{code_of}
 use Rattle.vir_code.specs.Listing.{listing_text}
 use Rattle.vir_course.specs.Courses.{Course, gives}
-use Rattle.vir_course.specs.Wordings.{Wording, exactly, first_with, proof_of, verdict_on}
+use Rattle.vir_course.specs.Wordings.{Wording, case_against, exactly, first_with, proof_of, simple_of, verdict_on}
+use Rattle.vir_refute.specs.Cases.{Case}
 use Rattle.vir_term.specs.declared.leaf.Leaf.{Leaf}
 use Rattle.vir_term.specs.declared.prop.Prop.{Prop}
 use Rattle.vir_term.specs.Tree.{Tree}
@@ -25,3 +26,11 @@ check_course cert = gives (verdict_on cert)
 -- none
 abbrev pub synth_course : ℕ → List Prop → List Leaf → Course Wording
 synth_course size props modules = gives (first_with size props modules)
+
+-- `refute`: that the case violates the property of the rule, or why it doesn't
+abbrev pub refute_course : Tree → Prop → Case → Course Wording
+refute_course term prop case = gives (case_against term prop case)
+
+-- `simplify`: what the rule is simplified to, and the steps
+abbrev pub simplify_course : Tree → Course Wording
+simplify_course term = gives (simple_of term)

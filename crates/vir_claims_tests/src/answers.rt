@@ -1,4 +1,5 @@
-// What is answered.
+// What is answered of properties and their derivations.
+use crate::expected::{Expected, is_answered};
 use crate::rules::{ALL, are_in_range, modules_of, rule_of};
 use std::alloc::{AllocError, Global};
 use std::process::Abort;
@@ -6,23 +7,6 @@ use vir_cert::read_cert;
 use vir_claims::{check, prove, synth};
 use vir_course::Answer;
 use vir_rules::Prop;
-
-// An answer, as what it is to be.
-#[derive(Clone, Copy)]
-enum Expected {
-    Text(&'static str),
-    Denial(&'static str),
-}
-
-// Whether there is such an answer.
-fn is_answered(answer: &Option<Answer>, expected: Expected) -> bool {
-    match (answer, expected) {
-        (Some(Answer::Text(bytes)), Expected::Text(text)) => bytes.as_slice() == text.as_bytes(),
-        (Some(Answer::Denial(bytes)), Expected::Denial(text)) => bytes.as_slice()
-            == text.as_bytes(),
-        _ => false,
-    }
-}
 
 // A certificate.
 const MONOTONE: &str = "virage-certificate 1

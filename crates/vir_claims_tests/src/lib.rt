@@ -1,12 +1,20 @@
-//! The tests of `vir_claims`, in a crate of their own: what `prove`, `check` and `synth` answer for small
-//! rules.
+//! The tests of `vir_claims`, in a crate of their own: what `prove`, `check`, `synth`, `refute` and `simplify`
+//! answer for small rules.
 //!
 //! There is no code but the tests, so the crate has no contract, and `vir_claims` is proved without them.
-//! It stands on `vir_claims`, on `vir_course` for answers, on `vir_cert` for certificates, and on `vir_book`
-//! and the crates below for the rules.
+//! It stands on `vir_claims`, on `vir_course` for answers, on `vir_cert` for certificates, on `vir_refute` and
+//! `vir_profile` for cases, and on `vir_book` and the crates below for the rules.
 #![tactic(auto)]
 
 #[cfg(test)]
 mod answers;
 #[cfg(test)]
+mod cases;
+#[cfg(test)]
+mod expected;
+#[cfg(test)]
 mod rules;
+#[cfg(test)]
+mod simple_rules;
+#[cfg(test)]
+mod votes;

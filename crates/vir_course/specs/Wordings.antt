@@ -4,9 +4,12 @@ use Rattle.vir_course.specs.declared.answer.Answer.{Answer}
 use Rattle.vir_course.specs.declared.answer.Answer.TheVariants as answer
 use Rattle.vir_cert.specs.Certs.{Cert}
 use Rattle.vir_course.specs.Certified.{IsAccepted, IsCertified, IsDenied, IsRefused}
+use Rattle.vir_course.specs.Refuted.{IsNoViolation, IsViolation}
 use Rattle.vir_course.specs.Reports.{Reported}
+use Rattle.vir_course.specs.Simplified.{IsSimplified}
 use Rattle.vir_course.specs.Synthesized.{IsFound, IsNone}
 use Rattle.vir_profile.specs.SocFiles.{File}
+use Rattle.vir_refute.specs.Cases.{Case}
 use Rattle.vir_term.specs.declared.leaf.Leaf.{Leaf}
 use Rattle.vir_term.specs.declared.prop.Prop.{Prop}
 use Rattle.vir_term.specs.Tree.{Tree}
@@ -33,6 +36,10 @@ pub data Wording : Type 0 where
   verdict_on : Cert → Wording
   -- the first rule up to a size with these properties that is composed of these modules, or a denial
   first_with : ℕ → List Prop → List Leaf → Wording
+  -- that a case violates a property of a rule, or a denial with the reason why it doesn't
+  case_against : Tree → Prop → Case → Wording
+  -- what a rule is simplified to, and the steps
+  simple_of : Tree → Wording
 
 -- The reply is such a text, and what it affirms is so.
 abbrev pub IsWorded : Wording → Reply → Type 0
@@ -46,6 +53,10 @@ IsWorded (verdict_on cert) (prints told) = IsAccepted cert told
 IsWorded (verdict_on cert) (denies told) = IsRefused cert told
 IsWorded (first_with size props modules) (prints told) = IsFound size props modules told
 IsWorded (first_with size props modules) (denies told) = IsNone size props modules told
+IsWorded (case_against term prop case) (prints told) = IsViolation term prop case told
+IsWorded (case_against term prop case) (denies told) = IsNoViolation term prop case told
+IsWorded (simple_of term) (prints told) = IsSimplified term told
+IsWorded (simple_of term) (denies told) = ⊥
 
 -- So it is of an answer of the code.
 abbrev pub Tells : Wording → Answer → Type 0
