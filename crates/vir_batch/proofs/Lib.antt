@@ -1,2 +1,7 @@
 pub mod LineLemmas
 pub mod NameLemmas
+pub mod KindLemmas
+pub mod SaidLemmas
+pub mod CountedLemmas
+pub mod TurnLemmas
+pub mod BatchLemmas

@@ -50,4 +50,5 @@ module _ (names : List (List ℕ)) (at : ℕ) (line : List ℕ) (some : (length 
       → text ≡ name → more ≡ names ++ text ∷ [] → with_line names at line ≡ Ok more
   unfolding by_room
   good_line is few name text more named same pushed =
-      with_room is ∙ ap by_room (not_full few) ∙ ap (λ l. Ok (names ++ l ∷ [])) (sym (same ∙ named)) ∙ ap Ok (sym pushed)
+      with_room is ∙ ap by_room (not_full few) ∙ ap (λ l. Ok (names ++ l ∷ [])) (sym (same ∙ named))
+      ∙ ap Ok (sym pushed)

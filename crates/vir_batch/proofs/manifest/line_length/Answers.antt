@@ -18,5 +18,7 @@ returns c =
     ∙ length-prefix_len (λ byte. not (is_line_feed byte)) bytes in
     record {
       length = is;
-      within = subst (λ (n : ℕ). n ≤ length bytes) (sym is) (prefix_len-le-length (λ byte. not (is_line_feed byte)) bytes);
+      within =
+          subst (λ (n : ℕ). n ≤ length bytes) (sym is)
+          (prefix_len-le-length (λ byte. not (is_line_feed byte)) bytes);
     }
