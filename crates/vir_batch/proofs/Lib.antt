@@ -5,3 +5,5 @@ pub mod SaidLemmas
 pub mod CountedLemmas
 pub mod TurnLemmas
 pub mod BatchLemmas
+pub mod ManifestLemmas
+pub mod FilesLemmas

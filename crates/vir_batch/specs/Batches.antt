@@ -8,6 +8,7 @@ use Rattle.vir_course.specs.Wordings.{Wording, exactly}
 use Rattle.vir_course.specs.declared.stop.Stop.TheVariants as stop
 use Rattle.vir_files.specs.Contents.{Contents}
 use Rattle.vir_files.specs.Files.{read_as}
+use Rattle.vir_files.specs.Readings.{rule_at}
 use Rattle.vir_machine.specs.Uses.{first_unserved}
 use Rattle.vir_profile.specs.SocFiles.{File}
 use Rattle.vir_soc.specs.declared.fault.SocFault.{SocFault}
@@ -56,3 +57,9 @@ batch_unless (Some leaf) contents term names = stops (stop.NoCounter (leaf_text 
 -- `batch`: what the rule comes to on each profile of the manifest
 abbrev pub batch_course : List (List LeafKind) → Contents → Tree → List (List ℕ) → Course Wording
 batch_course kinds contents term names = batch_unless (first_unserved kinds term) contents term names
+
+-- and by its files: a rule file, a manifest once that is accepted, and then the profiles
+abbrev pub batch_of_files_course : List (List LeafKind) → Contents → List ℕ → List ℕ → Course Wording
+batch_of_files_course kinds contents rule manifest =
+    and_then (rule_at contents 0 rule) (λ term.
+    and_then (manifest_at contents 1 manifest) (λ names. batch_course kinds contents term names))
