@@ -1,7 +1,7 @@
 // A call over a shelf in memory, and what it comes to.
 use std::alloc::{AllocError, Global};
 use std::process::Abort;
-use vir_batch::{batch, read_manifest};
+use vir_batch::{batch, batch_of_files, read_manifest};
 use vir_book::read_book;
 use vir_counter::{EliminatorCounter, FixedCounter};
 use vir_course::{Answer, Stop};
@@ -61,10 +61,30 @@ pub(crate) fn outcome_of<S: Shelf>(
     })
 }
 
+/// What the files `rule.vir` and `names.txt` come to, on the same bench.
+pub(crate) fn answer_of_files<S: Shelf>(
+    alloc: Global,
+    shelf: &mut S,
+) -> Result<Result<Answer, Stop>, AllocError> {
+    let mut bench = Bench::new(alloc);
+    let scoring = KeptScore::new(Score::Copeland);
+    bench.push(Box::new(alloc, EliminatorCounter::new(scoring))?)?;
+    bench.push(Box::new(alloc, FixedCounter::new())?)?;
+    Ok(batch_of_files(alloc, shelf, &mut bench, "rule.vir", "names.txt"))
+}
+
 /// Whether an answer is this text.
 pub(crate) fn is_text(answer: &Result<Answer, Stop>, text: &[u8]) -> bool {
     match answer {
         Ok(Answer::Text(bytes)) => bytes.as_slice() == text,
+        _ => false,
+    }
+}
+
+/// Whether reading a file failed, or it is missing.
+pub(crate) fn is_unread(answer: &Result<Answer, Stop>) -> bool {
+    match answer {
+        Err(Stop::ReadFault) => true,
         _ => false,
     }
 }

@@ -1,5 +1,5 @@
 // Batches that come to no text.
-use crate::calls::{COPELAND, full_shelf, is_text, outcome_of};
+use crate::calls::{COPELAND, full_shelf, is_text, is_unread, outcome_of};
 use std::alloc::AllocError;
 use vir_course::{Answer, Stop};
 
@@ -9,14 +9,6 @@ const TEXT: &[u8] = b"F voters 9 elected: 2 rejected: 1 3 deferred:\n\
     G refused Short at line 2\n\
     F voters 9 elected: 2 rejected: 1 3 deferred:\n\
     profiles 3 refused 1\n";
-
-// Whether reading a profile failed.
-fn is_unread(answer: &Result<Answer, Stop>) -> bool {
-    match answer {
-        Err(Stop::ReadFault) => true,
-        _ => false,
-    }
-}
 
 // Whether no counter served this module.
 fn lacks_counter(answer: &Result<Answer, Stop>, module: &[u8]) -> bool {
