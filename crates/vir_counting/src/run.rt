@@ -36,8 +36,8 @@ pub fn split_of(
     Ok(machine.run(&code, election, bench, &domain))
 }
 
-// The election of a file, with a table of pairs where the rule asks about them.
-fn election_for(alloc: Global, rule: &Term, file: SocFile) -> Result<Election, AllocError>
+/// The election of a file, with a table of pairs where the rule asks about them.
+pub fn election_for(alloc: Global, rule: &Term, file: SocFile) -> Result<Election, AllocError>
     ensures { IfOk result (λ election. election ≡ file) }
 {
     if asks_about_pairs(rule) {

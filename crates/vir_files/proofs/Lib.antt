@@ -5,3 +5,4 @@ pub mod FedLemmas
 pub mod ContentLemmas
 pub mod PerformLemmas
 pub mod CallLemmas
+pub mod ThenLemmas

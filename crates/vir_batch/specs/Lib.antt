@@ -1,0 +1,9 @@
+pub mod Manifest
+pub mod Kinds
+pub mod BatchTexts
+pub mod Batches
+pub mod Stages
+pub use Rattle.vir_course.specs.Courses
+pub use Rattle.vir_course.specs.Wordings
+pub use Rattle.vir_course.specs.Works
+pub use Rattle.vir_files.specs.Performs
