@@ -20,9 +20,10 @@ import shlex
 import shutil
 import sys
 import time
+import warnings
 from collections import Counter
 from pathlib import Path
-from typing import Iterator, List, NamedTuple, Optional, TextIO, Tuple
+from typing import Any, Iterator, List, NamedTuple, Optional, TextIO, Tuple, Union
 
 TOP = Path(__file__).resolve().parents[2]
 if (TOP / "python" / "virage").is_dir():
@@ -232,14 +233,20 @@ def read_options(words: Optional[List[str]] = None) -> argparse.Namespace:
     return options
 
 
+def tell_warning(message: Union[Warning, str], *_: Any, **__: Any) -> None:
+    """Says a warning as the script of a checkout says it of its build."""
+    print(f"virage: {message}", file=sys.stderr)
+
+
 def main() -> int:
     options = read_options()
+    warnings.showwarning = tell_warning
     progress = Progress(options.cases, sys.stderr)
     search = Search(options)
     try:
         case = search.run(progress)
     except virage.UsageFault:
-        print(f"refute takes no property {options.property}", file=sys.stderr)
+        print(f"virage takes no refute of the property {options.property}", file=sys.stderr)
         return USAGE
     except virage.Fault as fault:
         print(f"virage gives no answer: {type(fault).__name__} {fault}", file=sys.stderr)
