@@ -89,7 +89,7 @@ row() {
   done
 }
 
-if [ -z "${VIRAGE:-}" ] && { [ ! -x "$program" ] || [ "$("$top/virage" 2>&1)" != "usage fault" ]; }; then
+if [ -z "${VIRAGE:-}" ] && { [ ! -x "$program" ] || ! "$top/virage" --version | grep -q "^build: proved, "; }; then
   echo "bench: there is no proved build of the sources as they are: run 'rt ci' first" >&2
   exit 1
 fi

@@ -36,7 +36,7 @@ read_forms() {
 }
 
 tell_command() {
-  printf '  virage %s %s\n      %s\n      %s %s\n\n' "${row[command]}" "${row[words]}" "${row[does]}" "$called" \
+  printf '  virage %s %s\n    %s\n    %s %s\n\n' "${row[command]}" "${row[words]}" "${row[does]}" "$called" \
     "${row[example]}"
 }
 

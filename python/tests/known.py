@@ -11,6 +11,8 @@ WORDS = {
     "check": ("nothing",),
     "synth": ("1", "mono"),
     "position": ("1", "max", "nothing"),
+    "refute": ("nothing", "cc", "nothing"),
+    "simplify": ("nothing",),
 }
 
 

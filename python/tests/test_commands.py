@@ -143,6 +143,15 @@ class Faults(unittest.TestCase):
         with self.assertWarns(virage.BuildWarning):
             virage.drill(0, 1, 1, program=_program(self, f"echo 'virage: old' >&2; echo '{lines}'"))
 
+    def test_a_proved_build_can_be_called_without_its_script(self) -> None:
+        script = _program(self, "echo 'virage 0'; echo 'build: proved, /some where/virage'")
+        self.assertEqual(script.direct().path, "/some where/virage")
+        for body in ("echo 'build: unproved, /some where/virage'", "echo 'build: proved, of some commit'", "exit 2"):
+            other = _program(self, body)
+            self.assertIs(other.direct(), other)
+        missing = virage.Program("/nonexistent/virage")
+        self.assertIs(missing.direct(), missing)
+
 
 def _program(test: unittest.TestCase, body: str) -> virage.Program:
     """A program that does this."""

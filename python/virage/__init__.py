@@ -12,8 +12,21 @@ or bytes), a Profile, or a list of weights and orders. What gives no answer rais
 What a call gives is what the program printed; of this module itself nothing is proved.
 """
 
-from .answers import Certificate, Drill, Found, Instruction, Report, Result, Verdict, read_certificate, read_report
-from .commands import check, count, drill, listing, position, prove, report, synth
+from .answers import (
+    CaseVerdict,
+    Certificate,
+    Drill,
+    Found,
+    Instruction,
+    Report,
+    Result,
+    Simplified,
+    Step,
+    Verdict,
+    read_certificate,
+    read_report,
+)
+from .commands import check, count, drill, listing, position, prove, refute, report, simplify, synth
 from .derivations import Derivation, Finding, Holds, Reason, Underived
 from .faults import (
     Broken,
@@ -36,6 +49,7 @@ from .terms import Term
 __all__ = [
     "Broken",
     "BuildWarning",
+    "CaseVerdict",
     "Certificate",
     "Derivation",
     "Drill",
@@ -57,6 +71,8 @@ __all__ = [
     "Report",
     "Result",
     "Rule",
+    "Simplified",
+    "Step",
     "Table",
     "Term",
     "TextRefused",
@@ -73,7 +89,9 @@ __all__ = [
     "prove",
     "read_certificate",
     "read_report",
+    "refute",
     "report",
+    "simplify",
     "synth",
     "table",
 ]

@@ -114,6 +114,36 @@ class Found:
     derivations: Mapping[str, Derivation]
 
 
+@dataclass(frozen=True)
+class CaseVerdict:
+    """What `refute` says of a case: that it violates the property, or the first reason why it doesn't."""
+
+    violated: bool
+    reason: Optional[str] = None
+
+    def __bool__(self) -> bool:
+        return self.violated
+
+
+@dataclass(frozen=True)
+class Step:
+    """A step of `simplify`: the name of its equation, and the place of the part that it replaces.
+
+    Places are counted from 0, in the order of `preorder` of the term at hand.
+    """
+
+    equation: str
+    place: int
+
+
+@dataclass(frozen=True)
+class Simplified:
+    """The term that no equation makes smaller, and the steps that lead to it."""
+
+    term: Term
+    steps: Tuple[Step, ...]
+
+
 class Lines:
     """Lines of a printed text, and how many of them are read."""
 
@@ -254,6 +284,28 @@ def read_verdict(text: bytes) -> Verdict:
         verdict = Verdict(False, int(node), why)
     lines.end()
     return verdict
+
+
+def read_case_verdict(text: bytes) -> CaseVerdict:
+    """What `refute` printed."""
+    lines = Lines(text)
+    if lines.begins("violated"):
+        verdict = CaseVerdict(lines.after("violated") == "")
+    else:
+        verdict = CaseVerdict(False, lines.after("not violated: "))
+    lines.end()
+    return verdict
+
+
+def read_simplified(text: bytes) -> Simplified:
+    """What `simplify` printed."""
+    lines = Lines(text)
+    term = Term.read(lines.after("simple "))
+    steps = []
+    while lines.more():
+        equation, _, place = lines.after("").partition(" ")
+        steps.append(Step(equation, int(place)))
+    return Simplified(term, tuple(steps))
 
 
 def read_found(text: bytes) -> Optional[Found]:

@@ -7,19 +7,23 @@ from dataclasses import replace
 from typing import Callable, Optional, Sequence, SupportsIndex, Tuple, TypeVar, Union
 
 from .answers import (
+    CaseVerdict,
     Certificate,
     Drill,
     Found,
     Instruction,
     Report,
     Result,
+    Simplified,
     Verdict,
+    read_case_verdict,
     read_drill,
     read_found,
     read_listing,
     read_proof,
     read_report,
     read_result,
+    read_simplified,
     read_verdict,
 )
 from .derivations import Underived
@@ -58,6 +62,35 @@ def check(certificate: Union[PathOrText, Certificate], *, program: Optional[Prog
     given = certificate.text if isinstance(certificate, Certificate) else certificate
     with Files() as files:
         return _answer(read_verdict, program, "check", files.path_or_text("certificate", given, "\n"))
+
+
+def refute(
+    rule: RuleLike,
+    property: str,
+    profile: ProfileLike,
+    second: Optional[ProfileLike] = None,
+    lifted: Optional[SupportsIndex] = None,
+    *,
+    program: Optional[Program] = None,
+) -> CaseVerdict:
+    """Whether a profile shows that the last rule of a rule file lacks a property.
+
+    Of a property on lifts (`dli`, `imono`, `dimono`, `dmono`, `mono`) it takes a second profile too, and the
+    alternative that is lifted in it.
+    """
+    if (second is None) != (lifted is None):
+        raise ValueError("a second profile comes with the alternative that is lifted in it, and none without it")
+    with Files() as files:
+        words = [files.rule(rule), property, files.profile(profile)]
+        if second is not None and lifted is not None:
+            words += [files.profile(second, "second.soc"), str(operator.index(lifted))]
+        return _answer(read_case_verdict, program, "refute", *words)
+
+
+def simplify(rule: RuleLike, *, program: Optional[Program] = None) -> Simplified:
+    """A term of the same meaning as the last rule of a rule file, which no equation makes smaller, and the steps."""
+    with Files() as files:
+        return _answer(read_simplified, program, "simplify", files.rule(rule))
 
 
 def synth(

@@ -90,13 +90,16 @@ class Files:
             return self._keep("rule.vir", f"rule = {rule};\n".encode())
         return self.path_or_text("rule.vir", rule, ";")
 
-    def profile(self, profile: ProfileLike) -> str:
-        """The file of a profile. A string that holds a line feed is the text of one, any other a file's name."""
+    def profile(self, profile: ProfileLike, name: str = "profile.soc") -> str:
+        """The file of a profile, of this name where it has none.
+
+        A string that holds a line feed is the text of a profile, any other a file's name.
+        """
         if isinstance(profile, Profile):
-            return self._keep("profile.soc", profile.text())
+            return self._keep(name, profile.text())
         if isinstance(profile, (str, bytes, os.PathLike)):
-            return self.path_or_text("profile.soc", profile, "\n")
-        return self._keep("profile.soc", Profile.of(profile).text())
+            return self.path_or_text(name, profile, "\n")
+        return self._keep(name, Profile.of(profile).text())
 
     def path_or_text(self, name: str, given: PathOrText, sign: str) -> str:
         """The file itself, or one of this name for a text: bytes, or a string that holds the sign."""

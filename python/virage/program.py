@@ -3,6 +3,7 @@
 from __future__ import annotations
 
 import os
+import re
 import shutil
 import subprocess
 import warnings
@@ -47,6 +48,19 @@ class Program:
 
     def __repr__(self) -> str:
         return f"Program({self.path!r})"
+
+    def direct(self) -> Program:
+        """The proved build itself, where this is a script that runs it now; else this program.
+
+        A script looks at all sources first, which takes most of the time of a short call. Who makes many calls can do
+        without, once it has looked.
+        """
+        try:
+            ended = subprocess.run([self.path, "--version"], capture_output=True, check=False)
+        except OSError:
+            return self
+        found = re.search(rb"^build: proved, (/.*)$", ended.stdout, re.MULTILINE)
+        return Program(os.fsdecode(found[1])) if found else self
 
     def run(self, *words: str) -> Answer:
         """Calls the program with these words. Raises the fault, where there is no answer."""
