@@ -1,6 +1,6 @@
 -- What a command answers, by what reading its files and its work come to.
 use Rattle.std.proofs.Common.{◌≡◌, ℕ, Bool, List, [], Option, None, Some, Result, Ok, Err, refl, sym, subst, inr}
-use Rattle.vir_claims.specs.Claims.{synth_course}
+use Rattle.vir_claims.specs.Claims.{refute_course, synth_course}
 use Rattle.vir_course.specs.Courses.{Course, Follows, and_then}
 use Rattle.vir_machine.specs.Runs.{BenchView, served_by}
 use Rattle.vir_course.specs.Wordings.{Tells, Wording}
@@ -16,6 +16,7 @@ use Rattle.vir_files.specs.Values.{SeesRuleProfile}
 use Rattle.vir_files.specs.declared.two_files.RuleAndProfile.{RuleAndProfile}
 use Rattle.vir_outside.specs.Shelf.{Files}
 use Rattle.vir_profile.specs.SocFiles.{File}
+use Rattle.vir_refute.specs.Cases.{Case}
 use Rattle.vir_term.specs.declared.leaf.Leaf.{Leaf}
 use Rattle.vir_term.specs.declared.leaf.LeafKind.{LeafKind}
 use Rattle.vir_term.specs.declared.prop.Prop.{Prop}
@@ -31,6 +32,13 @@ pub synth_same : (size : ℕ) (props given : List Prop) (leaves handed : List Le
 synth_same size props given leaves handed answer same other follows =
     subst (λ (ls : List Leaf). Follows Tells ⊥ (synth_course size props ls) [] answer) other
     (subst (λ (ps : List Prop). Follows Tells ⊥ (synth_course size ps handed) [] answer) same follows)
+
+-- what follows from a case that is the same follows from this one
+pub refute_same : (term : Tree) (prop : Prop) (case given : Case) (answer : Result Answer Stop) → given ≡ case
+    → Follows Tells ⊥ (refute_course term prop given) [] answer
+    → Follows Tells ⊥ (refute_course term prop case) [] answer
+refute_same term prop case given answer same follows =
+    subst (λ (k : Case). Follows Tells ⊥ (refute_course term prop k) [] answer) same follows
 
 module _ (files : Option Files) (rose untouched : Type 0) (selected : Bool) (rest : Option (List ℕ)) where
   -- ---- a rule file and a profile, and work on the bench by what they say and which modules the bench serves

@@ -1,13 +1,18 @@
 -- A bench that serves every module is never told to lack a counter, whatever the shelf tells.
-use Rattle.std.proofs.Common.{◌≡◌, ◌⊎◌, ℕ, Bool, List, [], ◌∷◌, Option, None, Some, Result, Ok, Err, refl, ap, ◌∙◌}
+use Rattle.std.proofs.Common.{◌≡◌, ◌⊎◌, ℕ, ◌+◌, Bool, List, [], ◌∷◌, Option, None, Some, Result, Ok, Err, refl, ap, ◌∙◌}
 use Rattle.std.proofs.Common.{inl, inr, sym, subst, arith}
-use Rattle.vir_claims.specs.Claims.{check_course, listing_course, prove_course}
+use Rattle.vir_batch.specs.Batches.{all_counted, batch_course, batch_unless, count_said, manifest_at, profile_counted}
+use Rattle.vir_batch.specs.Batches.{run_for}
+use Rattle.vir_batch.specs.BatchTexts.{Said, batch_text}
+use Rattle.vir_batch.specs.Kinds.{manifests, profiles_or_faults}
+use Rattle.vir_claims.specs.Claims.{check_course, listing_course, prove_course, refute_course, simplify_course}
 use Rattle.vir_cert.specs.Certs.{Cert}
 use Rattle.vir_counting.specs.Counting.{count_course, counting_course, position_course, report_course}
 use Rattle.vir_counting.specs.DrillResults.{drill_terms, first_unserved_of}
-use Rattle.vir_course.specs.Courses.{Course, Follows, and_then, gives, go_on}
+use Rattle.vir_course.specs.Courses.{Course, Follows, and_then, behind, gives, go_on}
+use Rattle.vir_course.specs.Steps.{Step}
 use Rattle.vir_machine.specs.Runs.{BenchView, Run, served_by}
-use Rattle.vir_course.specs.Wordings.{Tells, Wording}
+use Rattle.vir_course.specs.Wordings.{Tells, Wording, exactly}
 use Rattle.vir_course.specs.declared.answer.Answer.{Answer}
 use Rattle.vir_course.specs.declared.answer.Answer.TheVariants as answer
 use Rattle.vir_course.specs.declared.stop.Stop.{Stop}
@@ -15,16 +20,19 @@ use Rattle.vir_course.specs.declared.stop.Stop.TheVariants as stop
 use Rattle.vir_files.specs.Contents.{Contents}
 use Rattle.vir_files.specs.Files.{Kind, accept, certificates, judge, profiles, read_as, rules}
 use Rattle.vir_files.specs.Performs.{Performs}
-use Rattle.vir_files.specs.Readings.{RuleProfile, certificate_at, profile_at, rule_and_profile_of, rule_at}
-use Rattle.vir_files.specs.Readings.{rule_profile}
+use Rattle.vir_files.specs.Readings.{RuleProfile, RuleTwoProfiles, certificate_at, profile_at, rule_and_profile_of}
+use Rattle.vir_files.specs.Readings.{rule_and_two_profiles_of, rule_at, rule_profile, rule_two_profiles}
 use Rattle.vir_machine.specs.Uses.{first_unserved, or_else}
 use Rattle.vir_outside.specs.Shelf.{Files}
 use Rattle.vir_profile.specs.SocFiles.{File}
+use Rattle.vir_refute.specs.Cases.{one, pair}
+use Rattle.vir_refute.specs.Judged.{election_of}
 use Rattle.vir_term.specs.declared.leaf.Leaf.{Leaf}
 use Rattle.vir_term.specs.declared.leaf.LeafKind.{LeafKind}
 use Rattle.vir_term.specs.Tree.{Tree}
 use Rattle.vir_top.specs.Calls.{AnswersWords, Calls, IsUsage}
-use Rattle.vir_words.specs.Command.{Command, check, count, drill, listing, position, prove, report, synth}
+use Rattle.vir_words.specs.Command.{Command, batch, check, count, drill, listing, position, prove, refute, refute_pair}
+use Rattle.vir_words.specs.Command.{report, simplify, synth}
 use Rattle.vir_top.specs.CommandCourses.{command_course}
 use Rattle.vir_top.specs.Delivery.{Delivers, SinkView}
 
@@ -71,6 +79,46 @@ both_never contents rule profile =
     (profile_never contents 1 profile)
     (λ f. gives_never (rule_profile t f)))
 
+three_never : (contents : Contents) (rule first second : List ℕ)
+    → NeverLacks (rule_and_two_profiles_of contents rule first second)
+three_never contents rule first second =
+    then_never (rule_and_profile_of contents rule first)
+    (λ (b : RuleProfile). and_then (profile_at contents 2 second) (λ (f : File). gives (rule_two_profiles b f)))
+    (both_never contents rule first)
+    (λ b. then_never (profile_at contents 2 second) (λ (f : File). gives (rule_two_profiles b f))
+    (profile_never contents 2 second) (λ f. gives_never (rule_two_profiles b f)))
+
+-- profiles of which each is counted before the next is read
+behind_never : {A : Type 0} (steps : List Step) (course : Course A) → NeverLacks course
+    → NeverLacks (behind steps course)
+behind_never steps course never = never
+
+counted_never : (contents : Contents) (place : ℕ) (term : Tree) (name : List ℕ)
+    → NeverLacks (profile_counted contents place term name)
+counted_never contents place term name =
+    then_never (read_as profiles_or_faults name (contents place name)) (count_said term name)
+    (read_never profiles_or_faults (λ never text is. absurd never) name (contents place name))
+    (λ says. behind_never (run_for term says) (gives (record { name = name; says = says }))
+    (gives_never (record { name = name; says = says })))
+
+all_counted_never : (contents : Contents) (place : ℕ) (term : Tree) (names : List (List ℕ))
+    → NeverLacks (all_counted contents place term names)
+all_counted_never contents place term [] = gives_never []
+all_counted_never contents place term (name ∷ rest) =
+    then_never (profile_counted contents place term name)
+    (λ (one : Said). and_then (all_counted contents (place + 1) term rest)
+    (λ (more : List Said). gives (one ∷ more)))
+    (counted_never contents place term name)
+    (λ one. then_never (all_counted contents (place + 1) term rest) (λ (more : List Said). gives (one ∷ more))
+    (all_counted_never contents (place + 1) term rest) (λ more. gives_never (one ∷ more)))
+
+batch_never : (unserved : Option Leaf) (contents : Contents) (term : Tree) (names : List (List ℕ)) → unserved ≡ None
+    → NeverLacks (batch_unless unserved contents term names)
+batch_never None contents term names none =
+    then_never (all_counted contents 2 term names) (λ (said : List Said). gives (exactly (batch_text term said)))
+    (all_counted_never contents 2 term names) (λ said. gives_never (exactly (batch_text term said)))
+batch_never (Some leaf) contents term names none = absurd cc
+
 counting_never : (unserved : Option Leaf) (runs : List Run) (wording : Wording) → unserved ≡ None
     → NeverLacks (counting_course unserved runs wording)
 counting_never None runs wording none text is = absurd cc
@@ -104,6 +152,24 @@ module _ (kinds : List (List LeafKind)) (served : (t : Tree) → first_unserved 
   command_never (position weights kind profile) contents =
       then_never (profile_at contents 0 profile) (λ (f : File). position_course weights kind f)
       (profile_never contents 0 profile) (λ f text is. absurd cc)
+  command_never (refute rule prop profile) contents =
+      then_never (rule_and_profile_of contents rule profile)
+      (λ (s : RuleProfile). refute_course s.term prop (one (election_of s.file.profile)))
+      (both_never contents rule profile) (λ s text is. absurd cc)
+  command_never (refute_pair rule prop first second lifted) contents =
+      then_never (rule_and_two_profiles_of contents rule first second)
+      (λ (s : RuleTwoProfiles). refute_course s.term prop
+      (pair (election_of s.first.profile) (election_of s.second.profile) lifted))
+      (three_never contents rule first second) (λ s text is. absurd cc)
+  command_never (simplify rule) contents =
+      then_never (rule_at contents 0 rule) simplify_course (rule_never contents 0 rule) (λ t text is. absurd cc)
+  command_never (batch rule manifest) contents =
+      then_never (rule_at contents 0 rule)
+      (λ (t : Tree). and_then (manifest_at contents 1 manifest) (λ names. batch_course kinds contents t names))
+      (rule_never contents 0 rule)
+      (λ t. then_never (manifest_at contents 1 manifest) (batch_course kinds contents t)
+      (read_never manifests (λ fault text is. absurd cc) manifest (contents 1 manifest))
+      (λ names. batch_never (first_unserved kinds t) contents t names (served t)))
 
 -- ---- a call
 -- with status 8 the answer names a module

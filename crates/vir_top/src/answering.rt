@@ -7,11 +7,13 @@ ghost use Rattle.vir_outside.specs.Faults.{Rose};
 ghost use Rattle.vir_top.specs.Calls.{AnswersWords};
 ghost use Rattle.vir_rules.specs.Named.{IsPropInRange};
 ghost use Rattle.vir_words.specs.Command.{IsInRange, check, command_in, command_seen, count, listing, position, prove};
-ghost use Rattle.vir_words.specs.Command.{report};
+ghost use Rattle.vir_words.specs.Command.{report, simplify};
 ghost use Rattle.vir_top.specs.CommandCourses.{command_course};
 
+use crate::refuting::{answer_refute, answer_refute_pair};
 use std::alloc::Global;
-use vir_claims::{check, listing, prove, synth};
+use vir_batch::batch_of_files;
+use vir_claims::{check, listing, prove, simplify, synth};
 use vir_counting::{count, drill, position, report};
 use vir_course::{Answer, Stop};
 use vir_files::{RuleAndProfile, certificate, profile, rule, rule_and_profile};
@@ -121,6 +123,18 @@ fn answer_position<S: Shelf>(
     position(alloc, weights, kind, file)
 }
 
+// Answers `simplify` for the rule file of this name.
+fn answer_simplify<S: Shelf>(alloc: Global, shelf: &mut S, rule_name: &str) -> Result<Answer, Stop>
+    ensures performs { (bench : BenchView) → Performs (command_course (served_by bench) (simplify rule_name.now)) Tells
+        (S.files shelf.old) (Rose (S.faults shelf.old) (S.faults shelf.new)) (shelf.new ≡ shelf.old)
+        bench bench (S.selected shelf.new) (S.rest shelf.new) result }
+    ensures files { S.files shelf.new ≡ S.files shelf.old }
+    ensures later { S.faults shelf.old ≤ S.faults shelf.new }
+{
+    let rule = rule(alloc, shelf, rule_name)?;
+    simplify(alloc, &rule)
+}
+
 // Answers a command.
 fn answer_command<S: Shelf>(
     alloc: Global,
@@ -156,6 +170,20 @@ fn answer_command<S: Shelf>(
             kind,
             profile,
         } => answer_position(alloc, shelf, weights, kind, profile),
+        Command::Refute {
+            rule,
+            prop,
+            profile,
+        } => answer_refute(alloc, shelf, rule, prop, profile),
+        Command::RefutePair {
+            rule,
+            prop,
+            first,
+            second,
+            lifted,
+        } => answer_refute_pair(alloc, shelf, rule, prop, first, second, lifted),
+        Command::Simplify { rule } => answer_simplify(alloc, shelf, rule),
+        Command::Batch { rule, manifest } => batch_of_files(alloc, shelf, bench, rule, manifest),
     }
 }
 

@@ -4,11 +4,13 @@
 //! the files that the words ask for, as far as the shelf tells them, whose course is performed; its steps are
 //! made on the bench and the shelf, and the answer that it leads to is delivered. What is printed and each
 //! status follow from that. It stands on `vir_words` for the words, on `vir_files` for readers of files, on
-//! `vir_counting` and `vir_claims` for the work of the commands, and on `vir_course` for what these say.
+//! `vir_counting`, `vir_claims` and `vir_batch` for the work of the commands, and on `vir_course` for what
+//! these say.
 #![tactic(auto)]
 
 mod answering;
 mod delivery;
+mod refuting;
 mod status;
 mod top;
 

@@ -8,6 +8,8 @@
 #[cfg(test)]
 mod calls;
 #[cfg(test)]
+mod cases;
+#[cfg(test)]
 mod claims;
 #[cfg(test)]
 mod devices;

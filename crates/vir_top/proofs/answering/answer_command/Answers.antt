@@ -26,3 +26,13 @@ returns-in-Synth-clause-performs g c =
 pub returns-in-Position-clause-performs : goal.returns-in-Position-clause-performs
 returns-in-Position-clause-performs g c =
     rw (ap command_seen c.in-Position.is) (c.answer_position.ensures.performs _)
+
+pub returns-in-Refute-clause-performs : goal.returns-in-Refute-clause-performs
+returns-in-Refute-clause-performs g c = rw (ap command_seen c.in-Refute.is) (c.answer_refute.ensures.performs _)
+
+pub returns-in-RefutePair-clause-performs : goal.returns-in-RefutePair-clause-performs
+returns-in-RefutePair-clause-performs g c =
+    rw (ap command_seen c.in-RefutePair.is) (c.answer_refute_pair.ensures.performs _)
+
+pub returns-in-Simplify-clause-performs : goal.returns-in-Simplify-clause-performs
+returns-in-Simplify-clause-performs g c = rw (ap command_seen c.in-Simplify.is) (c.answer_simplify.ensures.performs _)
