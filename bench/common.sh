@@ -8,13 +8,14 @@ program=${VIRAGE:-$top/crates/virage/out/virage}
 room=$(mktemp -d) || exit 1
 trap 'rm -rf "$room"' EXIT
 
-# profile LINES ALTERNATIVES BETWEEN END: shuffled orders with weights from 1 to 9, with BETWEEN members and END of line
+# profile LINES ALTERNATIVES BETWEEN END [SEED]: shuffled orders with weights from 1 to 9, with BETWEEN members and END
+# of line
 profile() {
   python3 - "$@" <<'PY'
 import random, sys
 lines, alternatives = int(sys.argv[1]), int(sys.argv[2])
-between, end = (word.encode().decode("unicode_escape") for word in sys.argv[3:])
-source = random.Random(1)
+between, end = (word.encode().decode("unicode_escape") for word in sys.argv[3:5])
+source = random.Random(int(sys.argv[5]) if len(sys.argv) > 5 else 1)
 order = [str(x) for x in range(1, alternatives + 1)]
 sys.stdout.reconfigure(newline="")
 sys.stdout.write(f"# NUMBER ALTERNATIVES: {alternatives}{end}")

@@ -170,7 +170,7 @@ def written(name: str, profile: virage.Profile) -> str:
 
 def called(program: virage.Program) -> str:
     """How the program is called in this folder."""
-    if os.path.exists("virage") and os.path.samefile("virage", program.path):
+    if os.path.exists("virage") and os.path.exists(program.path) and os.path.samefile("virage", program.path):
         return "./virage"
     return "virage" if program.path == shutil.which("virage") else program.path
 
@@ -227,6 +227,10 @@ def read_options(words: Optional[List[str]] = None) -> argparse.Namespace:
     parser.add_argument(
         "--files", default="counterexample", metavar="NAME", help="NAME-1.soc and NAME-2.soc are written (%(default)s)")
     options = parser.parse_args(words)
+    if not os.path.isfile(options.rule):
+        parser.error(f"{options.rule} is no file that can be read again and again")
+    if options.property in ON_LIFTS and options.alternatives[1] < 2:
+        parser.error("a single alternative can't be raised")
     if not Path(options.files).parent.is_dir():
         parser.error(f"there is no folder {Path(options.files).parent}")
     options.bounds = Bounds(options.alternatives, options.lines, options.weight)

@@ -13,6 +13,7 @@ WORDS = {
     "position": ("1", "max", "nothing"),
     "refute": ("nothing", "cc", "nothing"),
     "simplify": ("nothing",),
+    "batch": ("nothing", "nothing"),
 }
 
 

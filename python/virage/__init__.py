@@ -15,9 +15,11 @@ What a call gives is what the program printed; of this module itself nothing is 
 from .answers import (
     CaseVerdict,
     Certificate,
+    Counted,
     Drill,
     Found,
     Instruction,
+    Refused,
     Report,
     Result,
     Simplified,
@@ -26,7 +28,7 @@ from .answers import (
     read_certificate,
     read_report,
 )
-from .commands import check, count, drill, listing, position, prove, refute, report, simplify, synth
+from .commands import batch, check, count, drill, listing, position, prove, refute, report, simplify, synth
 from .derivations import Derivation, Finding, Holds, Reason, Underived
 from .faults import (
     Broken,
@@ -51,6 +53,7 @@ __all__ = [
     "BuildWarning",
     "CaseVerdict",
     "Certificate",
+    "Counted",
     "Derivation",
     "Drill",
     "Fault",
@@ -68,6 +71,7 @@ __all__ = [
     "Property",
     "ReadFault",
     "Reason",
+    "Refused",
     "Report",
     "Result",
     "Rule",
@@ -80,6 +84,7 @@ __all__ = [
     "UsageFault",
     "Verdict",
     "WriteFault",
+    "batch",
     "check",
     "count",
     "drill",

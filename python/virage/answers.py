@@ -3,7 +3,7 @@
 from __future__ import annotations
 
 from dataclasses import dataclass, field
-from typing import Dict, FrozenSet, Iterable, List, Mapping, Optional, Tuple, Union
+from typing import Dict, FrozenSet, Iterable, List, Mapping, Optional, Sequence, Tuple, Union
 
 from .derivations import Derivation, Finding, Holds, Reason, Underived, read_reasons
 from .rules import Judgement, table
@@ -142,6 +142,24 @@ class Simplified:
 
     term: Term
     steps: Tuple[Step, ...]
+
+
+@dataclass(frozen=True)
+class Counted:
+    """A profile of a batch that was accepted: its file, its voters, and the result, without names."""
+
+    file: str
+    voters: int
+    result: Result
+
+
+@dataclass(frozen=True)
+class Refused:
+    """A profile of a batch that was refused: its file, and the kind and the line of its first fault."""
+
+    file: str
+    kind: str
+    line: int
 
 
 class Lines:
@@ -284,6 +302,27 @@ def read_verdict(text: bytes) -> Verdict:
         verdict = Verdict(False, int(node), why)
     lines.end()
     return verdict
+
+
+def read_batch(text: bytes, files: Sequence[str]) -> Tuple[Union[Counted, Refused], ...]:
+    """What `batch` printed of these files."""
+    lines = Lines(text)
+    rows = tuple(_row(lines, file) for file in files)
+    refused = sum(isinstance(row, Refused) for row in rows)
+    if lines.after("profiles ") != f"{len(rows)} refused {refused}":
+        raise ValueError("the last line has other numbers than the lines before it")
+    lines.end()
+    return rows
+
+
+def _row(lines: Lines, file: str) -> Union[Counted, Refused]:
+    if lines.begins(f"{file} refused "):
+        kind, _, line = lines.after(f"{file} refused ").partition(" at line ")
+        return Refused(file, kind, int(line))
+    voters, _, sets = lines.after(f"{file} voters ").partition(" elected:")
+    elected, _, others = sets.partition(" rejected:")
+    rejected, _, deferred = others.partition(" deferred:")
+    return Counted(file, int(voters), Result(_numbers(elected), _numbers(rejected), _numbers(deferred)))
 
 
 def read_case_verdict(text: bytes) -> CaseVerdict:

@@ -4,18 +4,21 @@ from __future__ import annotations
 
 import operator
 from dataclasses import replace
-from typing import Callable, Optional, Sequence, SupportsIndex, Tuple, TypeVar, Union
+from typing import Callable, Iterable, Optional, Sequence, SupportsIndex, Tuple, TypeVar, Union
 
 from .answers import (
     CaseVerdict,
     Certificate,
+    Counted,
     Drill,
     Found,
     Instruction,
+    Refused,
     Report,
     Result,
     Simplified,
     Verdict,
+    read_batch,
     read_case_verdict,
     read_drill,
     read_found,
@@ -121,6 +124,16 @@ def position(
     with Files() as files:
         path = files.profile(profile)
         return _named(_answer(read_result, program, "position", listed, kind, path), path)
+
+
+def batch(
+    rule: RuleLike, profiles: Iterable[ProfileLike], *, program: Optional[Program] = None
+) -> Tuple[Union[Counted, Refused], ...]:
+    """Whom the last rule of a rule file elects, rejects and defers on each of these profiles, at most 10,000."""
+    with Files() as files:
+        paths = [files.profile(profile, f"{number}.soc") for number, profile in enumerate(profiles)]
+        manifest = files.manifest(paths)
+        return _answer(lambda text: read_batch(text, paths), program, "batch", files.rule(rule), manifest)
 
 
 def listing(rule: RuleLike, *, program: Optional[Program] = None) -> Tuple[Instruction, ...]:

@@ -101,6 +101,13 @@ class Files:
             return self.path_or_text(name, profile, "\n")
         return self._keep(name, Profile.of(profile).text())
 
+    def manifest(self, paths: Sequence[str]) -> str:
+        """A manifest of these files. A name that no manifest can hold is a ValueError."""
+        for path in paths:
+            if not path or "\n" in path or path.endswith("\r"):
+                raise ValueError(f"a manifest can't name the file {path!r}")
+        return self._keep("manifest.txt", "".join(f"{path}\n" for path in paths).encode("utf-8", "surrogateescape"))
+
     def path_or_text(self, name: str, given: PathOrText, sign: str) -> str:
         """The file itself, or one of this name for a text: bytes, or a string that holds the sign."""
         if isinstance(given, bytes):
