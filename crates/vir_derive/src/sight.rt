@@ -72,8 +72,8 @@ fn later_rows_of(prop: Prop) -> (usize, usize)
 impl<'a> Sight<'a> {
     // Whether the property is derivable of the term.
     #[cycle(derives)]
-    pub(crate) fn derives(self, prop: Prop) -> bool
-        ensures { (numbers : ℕ → Bool) → AreEnough numbers → (term : Tree) → Shows numbers self.entry term
+    pub(crate) fn derives(&self, prop: Prop) -> bool
+        ensures { (numbers : ℕ → Bool) → AreEnough numbers → (term : Tree) → Shows numbers self.now term
             → IsTrue (is_within numbers prop) → IsTrue result ↔ Derivable (of prop term) }
     {
         let (first, end) = rows_of(prop);
@@ -99,9 +99,9 @@ impl<'a> Sight<'a> {
 
     // Whether the rule serves to derive the property of the term.
     #[cycle(derives)]
-    fn serves(self, rule: RuleId, prop: Prop) -> bool
+    fn serves(&self, rule: RuleId, prop: Prop) -> bool
         requires { IsTrue (is_rule rule) }
-        ensures { (numbers : ℕ → Bool) → AreEnough numbers → (term : Tree) → Shows numbers self.entry term
+        ensures { (numbers : ℕ → Bool) → AreEnough numbers → (term : Tree) → Shows numbers self.now term
             → IsTrue (is_within numbers prop)
             → MatchBool result (Derivable (of prop term)) (Fails rule (of prop term)) }
     {
@@ -121,9 +121,9 @@ impl<'a> Sight<'a> {
 
     // Whether the premise is derivable, where the row's number is k.
     #[cycle(derives)]
-    fn derives_need(self, need: Need, k: u32) -> bool
-        requires { IsTold (form_seen self.form) need }
-        ensures { (numbers : ℕ → Bool) → AreEnough numbers → (term : Tree) → Shows numbers self.entry term
+    fn derives_need(&self, need: Need, k: u32) -> bool
+        requires { IsTold (form_seen self.now.form) need }
+        ensures { (numbers : ℕ → Bool) → AreEnough numbers → (term : Tree) → Shows numbers self.now term
             → IsTrue (is_need_within numbers k need) → IsTrue result ↔ Derivable (filled (letters_of term k) need) }
     {
         match need {

@@ -67,11 +67,11 @@ derives-returns t c = λ numbers enough term seen w. (
 
 pub derives_need-returns-in-Disj : goal.derives_need-returns-in-Disj
 derives_need-returns-in-Disj t c = λ numbers enough term seen w.
-    disjointness_told numbers c.args.self term seen c.args.k c.args.need c.in-Disj.field-0 c.in-Disj.field-1
+    disjointness_told numbers c.args.self.now term seen c.args.k c.args.need c.in-Disj.field-0 c.in-Disj.field-1
     c.in-Disj.is c.requires
 
 pub serves-returns-in_default : goal.serves-returns-in_default
-serves-returns-in_default t c = λ numbers enough term seen w. unfit_fails numbers c.args.self term seen c.args.rule
+serves-returns-in_default t c = λ numbers enough term seen w. unfit_fails numbers c.args.self.now term seen c.args.rule
     c.requires c.args.prop c.in_default.ensures
 
 pub serves-unreachable-requires : goal.serves-unreachable-requires
@@ -81,17 +81,17 @@ serves-unreachable-requires t c = gone (row_of c.args.rule).premises c.loop-i.i 
 pub serves-derives_need-requires : goal.serves-derives_need-requires
 serves-derives_need-requires t c =
     let range = rule_range c.args.rule c.requires in
-    let below = need_below c.args.rule c.args.prop (form_seen c.args.self.form) c.in-Some.k c.loop-i.i
+    let below = need_below c.args.rule c.args.prop (form_seen c.args.self.now.form) c.in-Some.k c.loop-i.i
     c.in-Some-need_at.need range.0 range.1 (sym c.in-Some.ensures) (sym c.in-Some-need_at.ensures) in
     (omega (arith, below.before), below.told)
 
 pub serves-returns-then-not-derives_need : goal.serves-returns-then-not-derives_need
 serves-returns-then-not-derives_need t c = λ numbers enough term seen w.
     let range = rule_range c.args.rule c.requires in
-    let asked = need_asked_within numbers enough.0 enough.1 c.args.rule c.args.prop (form_seen c.args.self.form)
+    let asked = need_asked_within numbers enough.0 enough.1 c.args.rule c.args.prop (form_seen c.args.self.now.form)
     c.in-Some.k c.loop-i.i c.in-Some-need_at.need range.0 range.1 (sym c.in-Some.ensures)
     (sym c.in-Some-need_at.ensures) w in
-    need_fails numbers c.args.self term seen c.args.rule c.requires c.args.prop c.in-Some.k c.loop-i.i
+    need_fails numbers c.args.self.now term seen c.args.rule c.requires c.args.prop c.in-Some.k c.loop-i.i
     c.in-Some-need_at.need c.in-Some.ensures c.in-Some-need_at.ensures
     (not_derivable (c.derives_need.ensures numbers enough term seen asked) c.if-not-derives_need.true)
 
@@ -100,7 +100,7 @@ serves-loop-i-preserved t c = (
   c.loop-i.invariant.0,
   (λ numbers enough term seen w.
       (let range = rule_range c.args.rule c.requires in
-      let asked = need_asked_within numbers enough.0 enough.1 c.args.rule c.args.prop (form_seen c.args.self.form)
+      let asked = need_asked_within numbers enough.0 enough.1 c.args.rule c.args.prop (form_seen c.args.self.now.form)
       c.in-Some.k c.loop-i.i c.in-Some-need_at.need range.0 range.1 (sym c.in-Some.ensures)
       (sym c.in-Some-need_at.ensures) w in
       need_more (letters_of term c.in-Some.k) (row_of c.args.rule).premises c.loop-i.i c.in-Some-need_at.need
@@ -111,5 +111,5 @@ serves-loop-i-preserved t c = (
 pub serves-returns : goal.serves-returns
 serves-returns t c = λ numbers enough term seen w.
     let l : length (row_of c.args.rule).premises ≤ c.loop-i.i = omega (arith, c.loop-i.invariant.0) in
-    all_serve numbers c.args.self term seen c.args.rule c.requires c.args.prop c.in-Some.k c.loop-i.i c.in-Some.ensures
-    l (c.loop-i.invariant.1 numbers enough term seen w)
+    all_serve numbers c.args.self.now term seen c.args.rule c.requires c.args.prop c.in-Some.k c.loop-i.i
+    c.in-Some.ensures l (c.loop-i.invariant.1 numbers enough term seen w)
