@@ -143,7 +143,8 @@ fn answer_command<S: Shelf>(
     bench: &mut Bench,
 ) -> Result<Answer, Stop>
     requires { IsInRange (command_seen command) }
-    ensures performs { Performs (command_course (served_by (seen kinds made bench.old)) (command_seen command.entry)) Tells
+    ensures performs { Performs
+        (command_course (served_by (seen kinds made bench.old)) (command_seen command.entry)) Tells
         (S.files shelf.old) (Rose (S.faults shelf.old) (S.faults shelf.new)) (shelf.new ≡ shelf.old)
         (seen kinds made bench.old) (seen kinds made bench.new) (S.selected shelf.new) (S.rest shelf.new) result }
     ensures files { S.files shelf.new ≡ S.files shelf.old }

@@ -8,7 +8,8 @@ pub returns-in_err-certificate-clause-performs : goal.returns-in_err-certificate
 returns-in_err-certificate-clause-performs g c = λ bench.
     let p = err_from_is_err_and c.from_residual.result c.from_residual.ensures.1 in
     rw (p.1, p.2)
-    (file_stop _ _ _ _ _ _ cert_seen check_course bench c.in_err-certificate.field-0.0 (c.in_err-certificate.ensures.performs bench))
+    (file_stop _ _ _ _ _ _ cert_seen check_course bench c.in_err-certificate.field-0.0
+    (c.in_err-certificate.ensures.performs bench))
 
 pub returns-clause-performs : goal.returns-clause-performs
 returns-clause-performs g c = λ bench.

@@ -8,7 +8,8 @@ pub returns-in_err-rule-clause-performs : goal.returns-in_err-rule-clause-perfor
 returns-in_err-rule-clause-performs g c = λ bench.
     let p = err_from_is_err_and c.from_residual.result c.from_residual.ensures.1 in
     rw (p.1, p.2)
-    (file_stop _ _ _ _ _ _ tree (λ term. prove_course term c.args.prop) bench c.in_err-rule.field-0.0 (c.in_err-rule.ensures.performs bench))
+    (file_stop _ _ _ _ _ _ tree (λ term. prove_course term c.args.prop) bench
+    c.in_err-rule.field-0.0 (c.in_err-rule.ensures.performs bench))
 
 pub returns-clause-performs : goal.returns-clause-performs
 returns-clause-performs g c = λ bench.
