@@ -1,7 +1,7 @@
-# What the measuring scripts share: profiles, the yardstick of bench/plain, and rows that compare. It is sourced, makes a
-# folder of its own, $room, which it removes, and stops where there is no proved build, unless VIRAGE is the file of another
-# program to measure. What isn't here is left out: rustc makes the yardsticks, valgrind counts instructions, and GNU time
-# tells seconds of processor and the peak of memory.
+# What the measuring scripts share: profiles, the yardstick of bench/plain, and rows that compare. It is sourced, makes
+# a folder of its own, $room, which it removes, and stops where there is no proved build, unless VIRAGE is the file of
+# another program to measure. What isn't here is left out: rustc makes the yardsticks, valgrind counts instructions, and
+# GNU time tells seconds of processor and the peak of memory.
 set -u
 top=$(cd "$(dirname "${BASH_SOURCE[0]}")/.." && pwd)
 program=${VIRAGE:-$top/crates/virage/out/virage}
@@ -105,7 +105,8 @@ head_of() {
 
 # the rules that are counted, each with its name
 names=('instant runoff' Borda Copeland Baldwin)
-rules=('seq(loop(1,min(plurality)),elect)' 'seq(max(borda),elect)' 'seq(max(copeland),elect)' 'seq(loop(1,min(borda)),elect)')
+rules=('seq(loop(1,min(plurality)),elect)' 'seq(max(borda),elect)' 'seq(max(copeland),elect)'
+  'seq(loop(1,min(borda)),elect)')
 
 # ---- calls that have to answer something within bars
 

@@ -1,7 +1,7 @@
 #!/usr/bin/env bash
 # Measures the counting of large profiles with four rules, reading included: the proved program, and the ordinary Rust
-# program of bench/plain, which counts a table of pairs where a rule asks for one, as virage does. Prints two tables as in
-# bench/RESULTS.md: instructions and memory, and for the largest profile the seconds of five runs, the least of them.
+# program of bench/plain, which counts a table of pairs where a rule asks for one, as virage does. Prints two tables as
+# in bench/RESULTS.md: instructions and memory, and for the largest profile the seconds of five runs, the least of them.
 set -u
 . "$(dirname "$0")/common.sh"
 

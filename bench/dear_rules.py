@@ -1,4 +1,4 @@
-"""Writes rule files whose reports are dear to derive or to print into a folder, and lists each with its size and nesting."""
+"""Writes rule files whose reports are dear to derive or to print into a folder, with the size and nesting of each."""
 import sys
 from functools import partial, reduce
 from itertools import cycle, islice

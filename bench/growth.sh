@@ -1,6 +1,6 @@
 #!/usr/bin/env bash
-# Measures how the instructions of counting, reading included, grow with the lines and with the alternatives of a profile,
-# for four rules, by the proved program. Prints a table as in bench/RESULTS.md; valgrind has to be there.
+# Measures how the instructions of counting, reading included, grow with the lines and with the alternatives of a
+# profile, for four rules, by the proved program. Prints a table as in bench/RESULTS.md; valgrind has to be there.
 set -u
 . "$(dirname "$0")/common.sh"
 

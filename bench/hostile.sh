@@ -1,6 +1,6 @@
 #!/usr/bin/env bash
-# Rule files that mean harm: each is generated, counted on a small profile by the proved build, and printed with its length,
-# the answer, the seconds and the peak memory. Usage: bench/hostile.sh [FOLDER], where FOLDER keeps the files.
+# Rule files that mean harm: each is generated, counted on a small profile by the proved build, and printed with its
+# length, the answer, the seconds and the peak memory. Usage: bench/hostile.sh [FOLDER], where FOLDER keeps the files.
 set -eu
 top=$(cd "$(dirname "$0")/.." && pwd)
 program=$top/crates/virage/out/virage
@@ -32,9 +32,10 @@ def write(name, text):
         f.write(text if isinstance(text, bytes) else text.encode())
 write("definitions", "".join(f"n{i:05d}=elect;\n" for i in range(60000)))
 write("doubling", "a0=elect;" + "".join(f"a{i+1}=seq(a{i},a{i});" for i in range(100)))
-write("doubling-in-one", "a=elect;b=seq(a,a);c=seq(b,b);d=seq(c,c);e=seq(d,d);f=seq(e,e);r=" + "seq(" * 60 + "f" + ",f)" * 60 + ";")
+large = "a=elect;b=seq(a,a);c=seq(b,b);d=seq(c,c);e=seq(d,d);f=seq(e,e);"
+write("doubling-in-one", large + "r=" + "seq(" * 60 + "f" + ",f)" * 60 + ";")
 part = "seq(f,seq(f,seq(f,f)))"
-write("large-names", "a=elect;b=seq(a,a);c=seq(b,b);d=seq(c,c);e=seq(d,d);f=seq(e,e);" + "".join(f"g{i}={part};" for i in range(30000)))
+write("large-names", large + "".join(f"g{i}={part};" for i in range(30000)))
 write("wide", "r = seq(" + ",".join(["elect"] * 170000) + ");")
 write("late-and-early", "r=seq(last,elect);" + "".join(f"m{i}=defer;" for i in range(50000)) + "last=elect;")
 write("used-at-once", "a=elect;" + "".join(f"b{i}=a;" for i in range(70000)))

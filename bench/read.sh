@@ -1,7 +1,7 @@
 #!/usr/bin/env bash
-# Measures the reading and judging of large profiles: the proved program, and the ordinary Rust program of bench/plain as
-# two yardsticks, once as it is and once with a table of all pairs that it counts while it reads. Prints a table as in
-# bench/RESULTS.md.
+# Measures the reading and judging of large profiles: the proved program, and the ordinary Rust program of bench/plain
+# as two yardsticks, once as it is and once with a table of all pairs that it counts while it reads. Prints a table as
+# in bench/RESULTS.md.
 set -u
 . "$(dirname "$0")/common.sh"
 

@@ -1,7 +1,7 @@
 #!/usr/bin/env bash
-# Measures reports on a small profile: on the rules of bench/dear_rules.py, and on those of examples/rules. Prints a table as
-# in bench/RESULTS.md. It ends with 1 where a report isn't made, or takes 2 seconds of processor, or 10 ms for a rule of
-# examples/rules, or 200 MB; a rule has three runs to keep to these, and the first that does is shown.
+# Measures reports on a small profile: on the rules of bench/dear_rules.py, and on those of examples/rules. Prints a
+# table as in bench/RESULTS.md. It ends with 1 where a report isn't made, or takes 2 seconds of processor, or 10 ms for
+# a rule of examples/rules, or 200 MB; a rule has three runs to keep to these, and the first that does is shown.
 # Usage: bench/report.sh [FOLDER], where FOLDER keeps the rules.
 set -u
 . "$(dirname "$0")/common.sh"

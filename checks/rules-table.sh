@@ -100,7 +100,8 @@ def coded_rules():
     families = read(SPECS + "Families.antt")
     body = " ".join(table[table.index("\ntable =") :].split())
     rules = []
-    for name, conclusion, needs in re.findall(r'rule \(codes "([^"]*)"\) \((.*?)\) (\[\]|\((?:Of|Disj).*?\[\]\)) ∷', body):
+    row = r'rule \(codes "([^"]*)"\) \((.*?)\) (\[\]|\((?:Of|Disj).*?\[\]\)) ∷'
+    for name, conclusion, needs in re.findall(row, body):
         words = conclusion.split(" ", 2)
         if words[0] == "Apart":
             says = "`disj` of " + PAIRINGS[words[1]]

@@ -7,7 +7,6 @@ from pathlib import Path
 
 import virage
 
-from .known import need
 from .places import profile, rule
 
 CIRCLE = [(1, [1, 2, 3]), (1, [2, 3, 1]), (1, [3, 1, 2])]
@@ -15,7 +14,6 @@ CIRCLE = [(1, [1, 2, 3]), (1, [2, 3, 1]), (1, [3, 1, 2])]
 
 class Batches(unittest.TestCase):
     def test_each_profile_is_counted_as_by_itself(self) -> None:
-        need(self, "batch")
         given = [profile("five-ways"), CIRCLE, profile("tied"), "# NUMBER ALTERNATIVES: 1\n", profile("five-ways")]
         rows = virage.batch(rule("copeland"), given)
         self.assertEqual([row.voters for row in rows], [55, 3, 11, 0, 55])
@@ -24,17 +22,14 @@ class Batches(unittest.TestCase):
             self.assertEqual(str(row.result), str(_without_names(virage.count(rule("copeland"), votes))))
 
     def test_a_refused_profile_ends_nothing(self) -> None:
-        need(self, "batch")
         rows = virage.batch("r = elect;", [CIRCLE, [(1, [1, 2]), (1, [2])], CIRCLE])
         self.assertEqual([type(row) for row in rows], [virage.Counted, virage.Refused, virage.Counted])
         self.assertEqual((rows[1].kind, rows[1].line), ("Short", 3))
 
     def test_no_profile(self) -> None:
-        need(self, "batch")
         self.assertEqual(virage.batch(rule("borda"), []), ())
 
     def test_faults(self) -> None:
-        need(self, "batch")
         with self.assertRaises(virage.ReadFault):
             virage.batch(rule("borda"), [CIRCLE, Path("no such file")])
         with self.assertRaises(virage.TextRefused) as refused:
@@ -44,7 +39,6 @@ class Batches(unittest.TestCase):
             virage.batch(rule("borda"), [Path("a\nb")])
 
     def test_names_of_files_may_look_like_answers(self) -> None:
-        need(self, "batch")
         with tempfile.TemporaryDirectory() as room:
             names = ["x voters 1 elected: 7", "x refused Short at line 2", "profiles 1 refused 0", " # "]
             for name in names:

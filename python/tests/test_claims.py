@@ -6,7 +6,6 @@ from pathlib import Path
 
 import virage
 
-from .known import need
 from .places import RULES, profile, rule
 
 ONE_NODE_WRONG = """virage-certificate 1
@@ -18,7 +17,6 @@ derivation dli-par(disj-pass-drop,dli-leaf,dli-leaf)
 
 class Proofs(unittest.TestCase):
     def test_proofs_are_those_of_reports(self) -> None:
-        need(self, "prove")
         for path in RULES:
             report = virage.report(path, profile("divided"))
             for word in ("mono", "defers(1)", "neut"):
@@ -30,14 +28,12 @@ class Proofs(unittest.TestCase):
                     self.assertEqual(said.reasons, report.underived[word])
 
     def test_the_version_is_that_which_is_needed(self) -> None:
-        need(self, "prove")
         for word, version in (("cc", 1), ("neut", 2)):
             said = virage.prove(rule("copeland"), word)
             self.assertIsInstance(said, virage.Certificate)
             self.assertEqual(said.version, version)
 
     def test_properties_are_words_of_the_language(self) -> None:
-        need(self, "prove")
         for word in ("monotone", "defers", "defers(0)", "ne of", ""):
             with self.assertRaises(virage.UsageFault):
                 virage.prove(rule("copeland"), word)
@@ -45,7 +41,6 @@ class Proofs(unittest.TestCase):
 
 class Checks(unittest.TestCase):
     def test_what_is_proved_is_accepted(self) -> None:
-        need(self, "prove", "check")
         certificate = virage.prove(rule("sequential-majority"), "mono")
         self.assertIsInstance(certificate, virage.Certificate)
         with tempfile.TemporaryDirectory() as room:
@@ -56,7 +51,6 @@ class Checks(unittest.TestCase):
         self.assertEqual(virage.read_certificate(certificate.text), certificate)
 
     def test_what_is_not_valid_is_told_by_its_node(self) -> None:
-        need(self, "check")
         verdict = virage.check(ONE_NODE_WRONG)
         self.assertEqual((bool(verdict), verdict.node, verdict.why), (False, 1, "RuleDoesNotFit"))
         verdict = virage.check(ONE_NODE_WRONG.replace(",dli-leaf)", ")"))
@@ -65,7 +59,6 @@ class Checks(unittest.TestCase):
             virage.read_certificate(ONE_NODE_WRONG.encode())
 
     def test_what_is_no_certificate_is_refused(self) -> None:
-        need(self, "check")
         with self.assertRaises(virage.TextRefused) as refused:
             virage.check(b"virage-certificate 3")
         self.assertEqual((refused.exception.kind, refused.exception.byte), ("BadHeader", 0))
@@ -73,13 +66,11 @@ class Checks(unittest.TestCase):
 
 class Searches(unittest.TestCase):
     def test_the_first_rule(self) -> None:
-        need(self, "synth")
         found = virage.synth(3, ["cc", "mono", "el"])
         self.assertEqual(str(found and found.term), "seq(max(copeland),elect)")
         self.assertEqual(list(found.derivations), ["cc", "mono", "el"])
 
     def test_modules_are_texts_or_terms(self) -> None:
-        need(self, "synth")
         elect = virage.Term.read("elect")
         for leaves in ("elect", elect, ["elect"], [elect, "pass(1,[2])"]):
             found = virage.synth(2, "el,mono", leaves)
@@ -87,7 +78,6 @@ class Searches(unittest.TestCase):
         self.assertIsNone(virage.synth(9, ["ne", "el"]))
 
     def test_bounds(self) -> None:
-        need(self, "synth")
         for size, leaves in ((0, None), (16, None), (1, []), (1, ["foo"])):
             with self.assertRaises(virage.UsageFault):
                 virage.synth(size, "el", leaves)
@@ -95,14 +85,12 @@ class Searches(unittest.TestCase):
 
 class Positions(unittest.TestCase):
     def test_weights_of_places(self) -> None:
-        need(self, "position")
         for weights, kind, rejected in (([2, 1, 0], "min", {3}), ([3, 1, 0], "upto", {1, 3}), ([1], "max", set())):
             result = virage.position(weights, kind, profile("board"))
             self.assertEqual((result.elected, result.rejected), (set(), rejected))
             self.assertEqual(result.names[2], "Muller")
 
     def test_weights_never_rise(self) -> None:
-        need(self, "position")
         for weights, kind in (([0, 1], "max"), ([], "max"), ([-1], "max"), ([1], "most"), ([1000001], "max")):
             with self.assertRaises(virage.UsageFault):
                 virage.position(weights, kind, profile("board"))

@@ -4,7 +4,6 @@ import unittest
 
 import virage
 
-from .known import need
 from .places import RULES, profile, rule
 
 # instant runoff elects 1 before it is raised by the last two voters, and 3 afterwards
@@ -17,7 +16,6 @@ CIRCLE = [(1, [1, 2, 3]), (1, [2, 3, 1]), (1, [3, 1, 2])]
 
 class Cases(unittest.TestCase):
     def test_a_winner_that_is_raised_and_loses(self) -> None:
-        need(self, "refute")
         runoff = rule("instant-runoff")
         verdict = virage.refute(runoff, "mono", BEFORE, AFTER, 1)
         self.assertEqual((verdict.violated, verdict.reason, bool(verdict)), (True, None, True))
@@ -26,7 +24,6 @@ class Cases(unittest.TestCase):
             self.assertEqual((verdict.violated, verdict.reason), (False, reason))
 
     def test_winners_of_all_duels(self) -> None:
-        need(self, "refute")
         for name, votes, reason in (
             ("plurality", profile("divided"), None),
             ("copeland", profile("divided"), "ClauseHolds"),
@@ -35,7 +32,6 @@ class Cases(unittest.TestCase):
             self.assertEqual(virage.refute(rule(name), "cc", votes).reason, reason)
 
     def test_each_kind_of_property_has_its_words(self) -> None:
-        need(self, "refute")
         with self.assertRaises(virage.UsageFault):
             virage.refute(rule("plurality"), "cc", BEFORE, AFTER, 1)
         for word in ("mono", "neut", "defers", "monotone"):
@@ -47,19 +43,16 @@ class Cases(unittest.TestCase):
 
 class Simplifications(unittest.TestCase):
     def test_steps_are_told_in_their_order(self) -> None:
-        need(self, "simplify")
         simple = virage.simplify("r = seq(defer,seq(rev(elect),max(borda)));")
         self.assertEqual(str(simple.term), "max(borda)")
         steps = [(step.equation, step.place) for step in simple.steps]
         self.assertEqual(steps, [("rev-elect", 3), ("seq-defer-left", 2), ("seq-defer-left", 0)])
 
     def test_a_term_without_steps_stays(self) -> None:
-        need(self, "simplify")
         term = virage.Term.read("seq(max(copeland),elect)")
         self.assertEqual(virage.simplify(term), virage.Simplified(term, ()))
 
     def test_the_result_stays(self) -> None:
-        need(self, "simplify")
         for path in RULES:
             term = virage.simplify(path).term
             for votes in (profile("divided"), profile("five-ways")):

@@ -8,7 +8,6 @@ from types import ModuleType
 
 import virage
 
-from .known import need
 from .places import RULES, TOP, profile, rule
 
 
@@ -52,14 +51,12 @@ class Searches(unittest.TestCase):
         self.assertEqual([case.line for case in cases], [1, 1, 1, 2, 2, 2])
 
     def test_every_case_is_a_lift(self) -> None:
-        need(self, "refute")
         search, program = _search(), virage.Program().direct()
         cases = search.drawn_cases(2, search.Bounds((2, 4), 3, 2), True)
         for case in itertools.islice(cases, 25):
             self.assertNotEqual(virage.refute("r = defer;", "dli", *case[:3], program=program).reason, "NotALift")
 
     def test_what_is_found(self) -> None:
-        need(self, "refute")
         search = _search()
         for name, word, seed, tried in (
             ("instant-runoff", "mono", 15, 37),
@@ -73,7 +70,6 @@ class Searches(unittest.TestCase):
             self.assertEqual((case and run.tried), tried, (name, word))
 
     def test_what_holds_by_a_derivation_is_never_violated(self) -> None:
-        need(self, "refute")
         search, program = _search(), virage.Program().direct()
         for path in RULES:
             holds = virage.report(path, profile("tied"), program=program).holds
