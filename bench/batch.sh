@@ -52,7 +52,7 @@ single_calls() {
 
 # batch_row NAME COUNT FILE..: the row of a batch of so many names
 batch_row() {
-  local what=$1 batch singles peak few
+  local what=$1 batch singles peak few held
   shift
   manifest "$@" >"$room/names"
   head -n 100 "$room/names" >"$room/few"
