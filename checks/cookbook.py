@@ -1,35 +1,27 @@
 #!/usr/bin/env python3
-"""The tables of examples/README.md, by what `./virage report` prints of each rule of the cookbook on each profile.
+"""The tables of examples/README.md, by the report of each rule of the cookbook on each profile.
 
 checks/cookbook.py          prints them
 checks/cookbook.py write    puts them between their marks in the page
 checks/cookbook.py check    compares them with the page; where they differ the status is 1
 """
 import re
-import subprocess
 import sys
 from pathlib import Path
 
 TOP = Path(__file__).resolve().parent.parent
+sys.path.insert(0, str(TOP / 'python'))
+import virage  # noqa: E402
+
 PAGE = TOP / 'examples/README.md'
 MARKED = re.compile(r'(<!-- printed by checks/cookbook.py -->\n).*(<!-- end -->\n)', re.S)
 NOTHING = '–'
 
 
-class Report:
-    """What a report tells of a rule on a profile."""
-
-    def __init__(self, rule, profile):
-        words = [TOP / 'virage', 'report', rule, profile]
-        text = subprocess.run(words, capture_output=True, check=True).stdout.decode('utf-8', 'replace')
-        self.sets = dict(re.findall(r'^(elected|rejected|deferred):(.*)$', text, re.M))
-        self.findings = {word: finding == 'holds' for finding, word in re.findall(
-            r'^(holds|underived) (\S+)', text, re.M)}
-
-    def outcome(self):
-        """Who is elected, or where nobody is, who is left."""
-        elected, deferred = (', '.join(self.sets[name].split()) for name in ('elected', 'deferred'))
-        return elected or (f'leaves {deferred}' if deferred else NOTHING)
+def outcome(report):
+    """Who is elected, or where nobody is, who is left."""
+    elected, deferred = (', '.join(map(str, sorted(found))) for found in (report.result.elected, report.result.deferred))
+    return elected or (f'leaves {deferred}' if deferred else NOTHING)
 
 
 def row(cells):
@@ -47,18 +39,18 @@ def link(rule):
 def properties_table(reports):
     """A row for each rule and a column for each property that is derived of some rule; the others in a line below."""
     words = list(next(iter(reports.values())).findings)
-    derived = [word for word in words if any(report.findings[word] for report in reports.values())]
+    derived = [word for word in words if any(word in report.holds for report in reports.values())]
     head = ['Rule'] + [f'[{word}](../docs/RULES.md#property-{word.split("(")[0]})' for word in derived]
-    rows = [[link(rule)] + ['holds' if report.findings[word] else '' for word in derived]
+    rows = [[link(rule)] + ['holds' if word in report.holds else '' for word in derived]
             for rule, report in reports.items()]
     others = ', '.join(f'`{word}`' for word in words if word not in derived)
     return table(head, rows) + (f'\nOf no rule of the cookbook is derived: {others}.\n' if others else '')
 
 
 def outcomes_table(rules, profiles):
-    reports = {(rule, profile): Report(rule, profile) for rule in rules for profile in profiles}
+    reports = {(rule, profile): virage.report(rule, profile) for rule in rules for profile in profiles}
     head = ['Rule'] + [f'[{profile.stem}](profiles/{profile.name})' for profile in profiles]
-    rows = [[link(rule)] + [reports[rule, profile].outcome() for profile in profiles] for rule in rules]
+    rows = [[link(rule)] + [outcome(reports[rule, profile]) for profile in profiles] for rule in rules]
     firsts = {rule: reports[rule, profiles[0]] for rule in rules}
     return firsts, table(head, rows)
 
