@@ -1,4 +1,5 @@
 -- What a test keeps of a set.
+-- (The program's promises don't stand on this file.)
 use Rattle.std.specs.Prelude.{◌≡◌, ℕ, Bool, true, false}
 use Rattle.std.specs.FinSet as set
 use Rattle.vir_altset.specs.Sets.{Set}

@@ -1,4 +1,5 @@
 -- A set as words of 64 bits: bit i of word k is that of the number 64 k + i + 1.
+-- (The program's promises don't stand on this file.)
 use Rattle.std.specs.Prelude.{◌≡◌, ℕ, zero, suc, ◌+◌, ◌-◌, ◌*◌, ◌/◌, ◌%◌, ◌^◌, ◌<◌, Bool, cond, List, [], ◌∷◌, length}
 use Rattle.std.specs.Prelude.{get_or, nat_eq}
 use Rattle.std.specs.Int.{bit_at}

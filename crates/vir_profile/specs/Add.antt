@@ -1,4 +1,5 @@
 -- Which lines a profile takes: the first fault of a line, in the order in which faults are tried.
+-- (The program's promises don't stand on this file.)
 use Rattle.std.specs.Prelude.{◌+◌, length, Option, nat_le, nat_lt}
 use Rattle.vir_profile.specs.declared.ballot.Entry.{Entry}
 use Rattle.vir_profile.specs.declared.refused.AddFault.{AddFault}

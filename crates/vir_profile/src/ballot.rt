@@ -1,21 +1,30 @@
 // Ballots, and the lines of a profile.
-ghost use Rattle.std.specs.Prelude.{◌≡◌, ◌≤◌, ◌<◌, ◌↔◌, [], ◌∷◌, ◌++◌, length, slice_index, IfOk, IsOk, IsTrue, OnOk};
-ghost use Rattle.std.specs.Prelude.{OnErr};
+ghost use Rattle.std.specs.Prelude.{◌≡◌, ◌≤◌, ◌<◌, ◌↔◌, [], All, length, slice_index, IfOk, IsOk, IsTrue};
+ghost use Rattle.vir_profile.specs.Members.{long_of};
 
 use crate::few::{ALTERNATIVES_IN_PLACE, Few};
+use crate::narrow::{NARROW, Narrow};
 use std::alloc::{AllocError, Global};
 use std::marker::Model;
 use std::mem::size_of;
+
+/// Where the alternatives of a longer order stand.
+#[derive(Debug, Drop)]
+enum Long {
+    Narrow(Narrow),
+    Wide(Vec<u16>),
+}
 
 /// Where the alternatives of a ballot stand.
 #[derive(Debug, Drop)]
 enum Members {
     Few(Few),
-    Many(Vec<u16>),
+    Long(Box<Long>),
 }
 
 /// The order of a ballot: alternatives, the most preferred first. Any list of numbers can be one;
-/// `Profile::add` judges it. Up to `ALTERNATIVES_IN_PLACE` of them stand in the ballot itself.
+/// `Profile::add` judges it. Up to `ALTERNATIVES_IN_PLACE` of them stand in the ballot itself where
+/// each is below 256.
 #[derive(Debug, Drop)]
 pub struct Ballot {
     members: Members,
@@ -30,69 +39,85 @@ impl Model for Ballot {
     ghost view = { λ b. alternatives_of b.members };
 }
 
+/// Room in which the alternatives of a ballot are spread out.
+pub type Room = [u16; NARROW];
+
+// These bytes as numbers of 16 bits.
+fn spread<'a>(bytes: &[u8], room: &'a mut Room) -> &'a [u16]
+    requires { length bytes.now ≤ NARROW }
+    ensures { result.now ≡ bytes.now }
+{
+    for i in 0..bytes.len() {
+        room[i] = u16::from(bytes[i]);
+    }
+    &room[..bytes.len()]
+}
+
+// A ballot whose order is kept apart from it.
+fn apart(alloc: Global, long: Long) -> Result<Ballot, AllocError>
+    ensures { IfOk result (λ ballot. ballot ≡ long_of long) }
+{
+    let long = Box::new(alloc, long)?;
+    Ok(Ballot {
+        members: Members::Long(long),
+    })
+}
+
 impl Ballot {
-    /// The ballot of this order.
-    pub fn of(order: Vec<u16>) -> Ballot
-        ensures { result ≡ order.items }
+    /// The ballot of these few alternatives. It takes no memory.
+    pub fn of_few(few: Few) -> Ballot
+        ensures { result ≡ few }
     {
-        let members = match Few::of(order.as_slice()) {
-            Some(few) => Members::Few(few),
-            None => Members::Many(order),
-        };
-        Ballot { members }
+        Ballot {
+            members: Members::Few(few),
+        }
+    }
+
+    /// The ballot of these bytes.
+    pub fn of_bytes(alloc: Global, places: Vec<u8>) -> Result<Ballot, AllocError>
+        requires { length places.items ≤ NARROW }
+        ensures { IfOk result (λ ballot. ballot ≡ places.items) }
+    {
+        apart(alloc, Long::Narrow(Narrow::of(places)))
+    }
+
+    /// The ballot of this order.
+    pub fn of(alloc: Global, order: Vec<u16>) -> Result<Ballot, AllocError>
+        ensures { IfOk result (λ ballot. ballot ≡ order.items) }
+    {
+        if let Some(few) = Few::of(order.as_slice()) {
+            return Ok(Ballot::of_few(few));
+        }
+        match Narrow::from_slice(alloc, order.as_slice())? {
+            Some(narrow) => apart(alloc, Long::Narrow(narrow)),
+            None => apart(alloc, Long::Wide(order)),
+        }
     }
 
     /// The ballot of this order. It takes no memory where the order stands in the ballot itself.
     pub fn from_slice(alloc: Global, order: &[u16]) -> Result<Ballot, AllocError>
         ensures order { IfOk result (λ ballot. ballot ≡ order.now) }
-        ensures in_place { length order.now ≤ ALTERNATIVES_IN_PLACE → IsOk result }
+        ensures in_place { (length order.now ≤ ALTERNATIVES_IN_PLACE) × All (λ x. x < 256) order.now → IsOk result }
     {
-        let members = match Few::of(order) {
-            Some(few) => Members::Few(few),
-            None => Members::Many(Vec::from_slice(alloc, order)?),
-        };
-        Ok(Ballot { members })
-    }
-
-    /// A ballot without alternatives, with room for so many.
-    pub fn with_room(alloc: Global, room: usize) -> Result<Ballot, AllocError>
-        ensures none { IfOk result (λ ballot. ballot ≡ []) }
-        ensures in_place { room ≤ ALTERNATIVES_IN_PLACE → IsOk result }
-    {
-        let members = if room <= ALTERNATIVES_IN_PLACE {
-            Members::Few(Few::none())
-        } else {
-            Members::Many(Vec::with_capacity(alloc, room)?)
-        };
-        Ok(Ballot { members })
-    }
-
-    /// Appends an alternative. It takes memory only where the room is full.
-    pub fn push(&mut self, alloc: Global, x: u16) -> Result<(), AllocError>
-        ensures pushed { OnOk result (self.new ≡ self.old ++ x ∷ []) }
-        ensures unchanged { OnErr result (self.new ≡ self.old) }
-    {
-        match &mut self.members {
-            Members::Few(few) => {
-                if few.push(x) {
-                    return Ok(());
-                }
-                let mut order = Vec::from_slice(alloc, few.as_slice())?;
-                order.push(x)?;
-                self.members = Members::Many(order);
-            }
-            Members::Many(order) => order.push(x)?,
+        if let Some(few) = Few::of(order) {
+            return Ok(Ballot::of_few(few));
         }
-        Ok(())
+        match Narrow::from_slice(alloc, order)? {
+            Some(narrow) => apart(alloc, Long::Narrow(narrow)),
+            None => apart(alloc, Long::Wide(Vec::from_slice(alloc, order)?)),
+        }
     }
 
-    /// The alternatives, the most preferred first.
-    pub fn alternatives(&self) -> &[u16]
+    /// The alternatives, the most preferred first; in the room, unless they stand so in the ballot.
+    pub fn alternatives<'a>(&'a self, room: &'a mut Room) -> &'a [u16]
         ensures { result.now ≡ self.now }
     {
         match &self.members {
-            Members::Few(few) => few.as_slice(),
-            Members::Many(order) => order.as_slice(),
+            Members::Few(few) => spread(few.as_slice(), room),
+            Members::Long(long) => match &**long {
+                Long::Narrow(narrow) => spread(narrow.as_slice(), room),
+                Long::Wide(order) => order.as_slice(),
+            },
         }
     }
 
@@ -100,14 +125,20 @@ impl Ballot {
     pub fn len(&self) -> usize
         ensures { result ≡ length self.now }
     {
-        self.alternatives().len()
+        match &self.members {
+            Members::Few(few) => few.len(),
+            Members::Long(long) => match &**long {
+                Long::Narrow(narrow) => narrow.as_slice().len(),
+                Long::Wide(order) => order.len(),
+            },
+        }
     }
 
     /// Whether it lists none.
     pub fn is_empty(&self) -> bool
         ensures { IsTrue result ↔ (self.now ≡ []) }
     {
-        self.alternatives().is_empty()
+        self.len() == 0
     }
 
     /// The alternative at a place, the most preferred one at 0.
@@ -115,7 +146,13 @@ impl Ballot {
         requires { i < length self.now }
         ensures { result ≡ slice_index self.now i }
     {
-        self.alternatives()[i]
+        match &self.members {
+            Members::Few(few) => u16::from(few.as_slice()[i]),
+            Members::Long(long) => match &**long {
+                Long::Narrow(narrow) => u16::from(narrow.as_slice()[i]),
+                Long::Wide(order) => order[i],
+            },
+        }
     }
 }
 
@@ -127,4 +164,4 @@ pub struct Entry {
 }
 
 // A profile of a million short lines takes no more memory than this for each of them.
-const _: () = prove!(size_of::<Entry>() <= 40);
+const _: () = prove!(size_of::<Entry>() <= 24);

@@ -1,17 +1,16 @@
 // The alternatives of a short order, which stand in the ballot itself.
-ghost use Rattle.std.specs.Prelude.{◌≡◌, ◌≤◌, ◌<◌, ◌↔◌, [], ◌∷◌, ◌++◌, length, IfSome, IsSome, IsTrue};
-ghost use Rattle.std.specs.Bool.{MatchBool};
+ghost use Rattle.std.specs.Prelude.{◌≡◌, ◌≤◌, ◌<◌, [], ◌∷◌, ◌++◌, All, length, IfSome, IsSome};
 
 use std::marker::Model;
 
-/// How many alternatives a ballot holds without memory of its own.
+/// How many alternatives below 256 a ballot holds without memory of its own.
 pub const ALTERNATIVES_IN_PLACE: usize = 14;
 
-/// A list of few alternatives, which takes no memory of its own.
+/// A list of few alternatives below 256, which takes no memory of its own.
 #[derive(Debug, Drop)]
 pub struct Few {
     count: u8,
-    places: [u16; ALTERNATIVES_IN_PLACE],
+    places: [u8; ALTERNATIVES_IN_PLACE],
 }
 
 impl Model for Few {
@@ -26,20 +25,22 @@ impl Model for Few {
 }
 
 impl Few {
-    /// These alternatives; None exactly where they are too many.
+    /// These alternatives; None exactly where they are too many or one of them is too great.
     pub fn of(order: &[u16]) -> Option<Few>
-        ensures room { IsSome result ↔ (length order.now ≤ ALTERNATIVES_IN_PLACE) }
+        ensures room { (length order.now ≤ ALTERNATIVES_IN_PLACE) × All (λ x. x < 256) order.now → IsSome result }
         ensures order { IfSome result (λ few. few ≡ order.now) }
     {
         if order.len() > ALTERNATIVES_IN_PLACE {
             return None;
         }
-        let mut places = [0; ALTERNATIVES_IN_PLACE];
-        places[..order.len()].copy_from_slice(order);
-        Some(Few {
-            count: order.len() as u8,
-            places,
-        })
+        let mut few = Few::none();
+        for i in 0..order.len() {
+            if order[i] >= 256 {
+                return None;
+            }
+            few.push(order[i] as u8);
+        }
+        Some(few)
     }
 
     /// No alternatives.
@@ -52,23 +53,26 @@ impl Few {
         }
     }
 
-    /// Appends an alternative; false exactly where there is no room for it.
-    pub fn push(&mut self, x: u16) -> bool
-        ensures room { IsTrue result ↔ (length self.old < ALTERNATIVES_IN_PLACE) }
-        ensures pushed { MatchBool result (self.new ≡ self.old ++ x ∷ []) (self.new ≡ self.old) }
+    /// Appends an alternative, for which there must be room.
+    pub fn push(&mut self, x: u8)
+        requires { length self.old < ALTERNATIVES_IN_PLACE }
+        ensures { self.new ≡ self.old ++ x ∷ [] }
     {
-        let place = usize::from(self.count);
-        if place == ALTERNATIVES_IN_PLACE {
-            return false;
-        }
-        self.places[place] = x;
+        self.places[usize::from(self.count)] = x;
         self.count += 1;
-        true
+    }
+
+    /// How many they are.
+    pub fn len(&self) -> usize
+        ensures { result ≡ length self.now }
+    {
+        usize::from(self.count)
     }
 
     /// The alternatives, in their order.
-    pub fn as_slice(&self) -> &[u16]
-        ensures { result.now ≡ self.now }
+    pub fn as_slice(&self) -> &[u8]
+        ensures places { result.now ≡ self.now }
+        ensures few { length result.now ≤ ALTERNATIVES_IN_PLACE }
     {
         &self.places[..usize::from(self.count)]
     }

@@ -13,18 +13,20 @@
 mod ballot;
 mod few;
 mod laws;
+mod narrow;
 mod profile;
 mod refused;
 mod soc_file;
 #[cfg(test)]
 mod tests;
 
-pub use ballot::{Ballot, Entry};
-pub use few::ALTERNATIVES_IN_PLACE;
+pub use ballot::{Ballot, Entry, Room};
+pub use few::{ALTERNATIVES_IN_PLACE, Few};
 pub use laws::{
     accepted_orders, condorcet_winner_is_unique, condorcet_winner_stays, profiles_are_complete,
     restricted_orders, restricted_to_the_whole, restriction_keeps_pairs,
 };
+pub use narrow::NARROW;
 pub use profile::{LINES_LIMIT, Profile};
 pub use refused::{AddFault, Refused};
 pub use soc_file::{Name, NameText, SocFile};

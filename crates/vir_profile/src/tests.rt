@@ -1,5 +1,5 @@
 // Lines that a profile takes, and lines that it hands back. Names are tested in the crates above.
-use crate::{ALTERNATIVES_IN_PLACE, AddFault, Ballot, Entry, Profile, Refused, laws};
+use crate::{ALTERNATIVES_IN_PLACE, AddFault, Ballot, Entry, NARROW, Profile, Refused, laws};
 use std::alloc::{AllocError, Global};
 use std::process::Abort;
 
@@ -10,7 +10,7 @@ fn add(
     weight: u64,
     order: &[u16],
 ) -> Result<Option<Refused>, AllocError> {
-    let order = Ballot::of(Vec::from_slice(alloc, order)?);
+    let order = Ballot::of(alloc, Vec::from_slice(alloc, order)?)?;
     Ok(profile.add(Entry { weight, order }).err())
 }
 
@@ -70,21 +70,13 @@ fn profile_of(
     Ok(profile)
 }
 
-// A ballot of this order, pushed member by member into a room for so many.
-fn pushed(alloc: Global, room: usize, order: &[u16]) -> Result<Ballot, AllocError> {
-    let mut ballot = Ballot::with_room(alloc, room)?;
-    for x in order {
-        ballot.push(alloc, *x)?;
-    }
-    Ok(ballot)
-}
-
 // However a ballot of this order is made, it lists it.
 fn expect_listed(rt: &impl Abort, alloc: Global, order: &[u16]) -> Result<(), AllocError> {
-    assert!(rt; Ballot::from_slice(alloc, order)?.alternatives() == order);
-    assert!(rt; Ballot::of(Vec::from_slice(alloc, order)?).alternatives() == order);
-    assert!(rt; pushed(alloc, order.len(), order)?.alternatives() == order);
-    assert!(rt; pushed(alloc, 0, order)?.alternatives() == order);
+    let mut room = [0; NARROW];
+    assert!(rt; Ballot::from_slice(alloc, order)?.alternatives(&mut room) == order);
+    let ballot = Ballot::of(alloc, Vec::from_slice(alloc, order)?)?;
+    assert!(rt; ballot.alternatives(&mut room) == order);
+    assert!(rt; is_order(&ballot, order));
     Ok(())
 }
 
@@ -97,6 +89,8 @@ fn ballots_of_every_length_list_their_order(rt: HostRuntime) -> Result<(), Alloc
     for length in 0..ORDER.len() + 1 {
         expect_listed(&rt, rt.alloc(), &ORDER[..length])?;
     }
+    expect_listed(&rt, rt.alloc(), &[256, 1])?;
+    expect_listed(&rt, rt.alloc(), &[255, 1])?;
     Ok(())
 }
 

@@ -1,6 +1,6 @@
 -- Numbers as they are written: some decimal digits.
 use Rattle.std.proofs.Common.{◌≡◌, ℕ, ◌<◌, ◌^◌, Bool, true, false, ◌&&◌, List, [], ◌∷◌, length, get_or, decimal, Some}
-use Rattle.std.proofs.Common.{nat_lt, refl, arith, rules}
+use Rattle.std.proofs.Common.{nat_eq, nat_lt, refl, arith, rules}
 use Rattle.std.specs.List.{list_any, list_all}
 use Rattle.std.specs.Char.{is_ascii_digit}
 use Rattle.std.specs.Str.Parse.{digits_value}
@@ -54,6 +54,10 @@ hash_fails c h = grind (arith, nat_tests)
 
 pub line_feed_fails : FailsDigits is_line_feed
 line_feed_fails c h = grind (arith, nat_tests)
+
+-- the first byte of a byte order mark
+pub mark_fails : FailsDigits (λ c. nat_eq c 0xEF)
+mark_fails c h = grind (arith, nat_tests)
 
 none_passes : (p : ℕ → Bool) → FailsDigits p → (ds : List ℕ) → AreDigits ds → list_any p ds ≡ false
 none_passes p f [] h = refl

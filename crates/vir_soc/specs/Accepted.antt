@@ -1,4 +1,5 @@
 -- What the lines of a file say, read one by one and without regard to any other line.
+-- (The program's promises don't stand on this file.)
 use Rattle.std.specs.Prelude.{◌≡◌, ℕ, true, Bool, false, List, [], ◌∷◌, length, map, filter, Option, Some, None}
 use Rattle.std.specs.Prelude.{if◌then◌else◌, nat_eq}
 use Rattle.std.specs.List.{slice_split, before_first, after_first, flat_map, last_or}

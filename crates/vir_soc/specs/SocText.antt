@@ -1,4 +1,5 @@
 -- The canonical text of a file.
+-- (The program's promises don't stand on this file.)
 use Rattle.std.specs.Prelude.{ℕ, List, [], ◌∷◌, ◌++◌, length, map, codes, decimal, nat_eq, if◌then◌else◌}
 use Rattle.std.specs.List.{flat_map, join_with_byte}
 use Rattle.vir_profile.specs.declared.ballot.Entry.{Entry}

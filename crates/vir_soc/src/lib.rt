@@ -4,10 +4,10 @@
 //! its first fault with its line. The one contract: however the bytes are cut into pieces, a
 //! [`SocReader`] gives what that function gives, and shows a fault as soon as the bytes so far settle
 //! it. What [`write_soc`] writes of a file reads back as that file where the text is within the size
-//! limit. Lines of votes in the shape that nearly all files give them are read in one pass, and all
-//! others step by step. The layer stands on `vir_profile`, whose `SocFile` is what a file says, and on
-//! `vir_altset`; `memchr` finds its line feeds, `itoa` writes its numbers, and `thiserror` derives its
-//! errors. Its tests are a crate of their own, `vir_soc_tests`.
+//! limit. Lines of votes in the shape that nearly all files give them are read in one pass over the
+//! bytes of a piece, and all others step by step. The layer stands on `vir_profile`, whose `SocFile` is
+//! what a file says, and on `vir_altset`; `memchr` finds its line feeds, `itoa` writes its numbers, and
+//! `thiserror` derives its errors. Its tests are a crate of their own, `vir_soc_tests`.
 #![tactic(auto)]
 
 mod bytes;

@@ -1,8 +1,9 @@
 // Lines, read from pieces that may be cut anywhere.
-ghost use Rattle.std.specs.Prelude.{◌≡◌, ◌+◌, ◌++◌, ◌<◌, ◌≤◌, ◌^◌, [], false, length, nat_eq, OnOk};
+ghost use Rattle.std.specs.Prelude.{◌≡◌, ◌+◌, ◌++◌, ◌<◌, ◌≤◌, ◌^◌, [], false, length, nat_eq, Ok, OnOk, IfOk, IfErr};
+ghost use Rattle.std.specs.Prelude.{IfSome, MatchOption};
 ghost use Rattle.std.specs.List.{list_any};
 ghost use Rattle.vir_profile.specs.SocFiles.{is_line_feed};
-ghost use Rattle.vir_soc.specs.Reader.Answers.{Gives, fault_in};
+ghost use Rattle.vir_soc.specs.Reader.Answers.{Fails, Gives, fault_in};
 ghost use Rattle.vir_soc.specs.Reader.Pieces as rules;
 ghost use Rattle.vir_soc.specs.Reader.Views.{progress_of};
 
@@ -11,6 +12,7 @@ use crate::draft::Draft;
 use crate::fault::{SocError, SocFault};
 use crate::line::after_line;
 use crate::stop::Stop;
+use crate::votes::take_ended;
 use std::alloc::{AllocError, Global};
 use std::marker::Model;
 
@@ -105,6 +107,61 @@ fn end_line(alloc: Global, reader: &mut LineReader, end: &[u8]) -> Result<(), So
     Ok(())
 }
 
+/// Takes the line with which the bytes begin, where none has begun before them, it is one of votes in the usual shape
+/// with its end, and there is room for it. Gives what stands behind its end.
+fn take_usual<'a>(alloc: Global, reader: &mut LineReader, bytes: &'a [u8]) -> Option<&'a [u8]>
+    requires { reader.old.line + length bytes.now < 2 ^ 64 }
+    ensures exact { MatchOption result (reader.new ≡ reader.old) (λ rest.
+        rules.reads (progress_of reader.old) bytes.now ≡ rules.reads (progress_of reader.new) rest.now) }
+    ensures line { IfSome result (λ rest. reader.new.line ≡ reader.old.line + 1) }
+    ensures shorter { IfSome result (λ rest. length rest.now < length bytes.now) }
+{
+    if !reader.begun.is_empty() {
+        return None;
+    }
+    let Some(profile) = &mut reader.draft.profile else {
+        return None;
+    };
+    let rest = take_ended(alloc, profile, bytes)?;
+    reader.line += 1;
+    Some(rest)
+}
+
+/// Takes the line that the bytes end first, and gives what stands behind its line feed. Where they end none, a line
+/// goes on with them.
+fn take_line<'a>(
+    alloc: Global,
+    reader: &mut LineReader,
+    bytes: &'a [u8],
+) -> Result<Option<&'a [u8]>, SocError>
+    requires { reader.old.line + length bytes.now < 2 ^ 64 }
+    ensures exact { IfOk result (λ after. MatchOption after
+        (rules.reads (progress_of reader.old) bytes.now ≡ Ok (progress_of reader.new))
+        (λ rest. rules.reads (progress_of reader.old) bytes.now
+        ≡ rules.reads (progress_of reader.new) rest.now)) }
+    ensures fault { IfErr result (λ e. Fails (fault_in e) (rules.reads (progress_of reader.old) bytes.now)) }
+    ensures line { IfOk result (λ after. MatchOption after
+        (reader.new.line ≤ reader.old.line + length bytes.now)
+        (λ rest. reader.new.line + length rest.now ≤ reader.old.line + length bytes.now)) }
+    ensures shorter { IfOk result (λ after. IfSome after (λ rest. length rest.now < length bytes.now)) }
+{
+    match take_usual(alloc, reader, bytes) {
+        Some(rest) => return Ok(Some(rest)),
+        None => {}
+    }
+    let (before, after) = cut(b'\n', bytes);
+    match after {
+        None => {
+            reader.begun.extend(before)?;
+            Ok(None)
+        }
+        Some(rest) => {
+            end_line(alloc, reader, before)?;
+            Ok(Some(rest))
+        }
+    }
+}
+
 /// Takes further bytes.
 pub fn read(alloc: Global, reader: &mut LineReader, piece: &[u8]) -> Result<(), SocError>
     requires { reader.old.line + length piece.now < 2 ^ 64 }
@@ -114,16 +171,9 @@ pub fn read(alloc: Global, reader: &mut LineReader, piece: &[u8]) -> Result<(), 
 {
     let mut rest = piece;
     loop {
-        let (before, after) = cut(b'\n', rest);
-        match after {
-            None => {
-                reader.begun.extend(before)?;
-                return Ok(());
-            }
-            Some(after) => {
-                end_line(alloc, reader, before)?;
-                rest = after;
-            }
+        match take_line(alloc, reader, rest)? {
+            None => return Ok(()),
+            Some(after) => rest = after,
         }
     }
 }

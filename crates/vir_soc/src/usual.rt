@@ -1,14 +1,14 @@
-// Lines of votes in their usual shape, which are read in one pass.
-ghost use Rattle.std.specs.Prelude.{◌≡◌, ◌≤◌, ◌<◌, ◌^◌, ◌++◌, ◌∷◌, [], List, Ok, None, false, decimal, drop, length};
-ghost use Rattle.std.specs.Prelude.{nat_eq, IfSome};
-ghost use Rattle.std.specs.List.{list_any, prefix_len, slice_split};
+// Lines of votes in their usual shape, which are read in one pass over the bytes that they begin.
+ghost use Rattle.std.specs.Prelude.{◌≡◌, ◌≤◌, ◌<◌, ◌^◌, ◌++◌, ◌∷◌, decimal, drop, length, nat_eq, IfSome};
+ghost use Rattle.std.specs.List.{prefix_len};
 ghost use Rattle.vir_altset.specs.Sets.{limit};
-ghost use Rattle.vir_profile.specs.OrderFaults.{order_fault};
-ghost use Rattle.vir_profile.specs.declared.ballot.Entry.{Entry};
-ghost use Rattle.vir_soc.specs.Votes.{is_brace, is_comma, order_after, with_order, with_votes};
+ghost use Rattle.vir_soc.specs.Reader.UsualLines.{BeginsWithOrder, BeginsWithVotes};
 
 use std::alloc::Global;
-use vir_profile::{AltSet, Ballot, Entry};
+use vir_profile::{ALTERNATIVES_IN_PLACE, Ballot, Entry, Few, LIMIT, NARROW};
+
+/// A mark for each number up to the greatest alternative.
+const MARKS: usize = LIMIT as usize + 1;
 
 /// A number below this bound may have a further digit.
 const DIGIT_BOUND: u64 = 100_000_000_000_000_000;
@@ -43,7 +43,7 @@ fn leading_number(text: &[u8]) -> Option<Leading<'_>>
 }
 
 /// What stands behind this byte, where the text begins with it.
-fn behind(byte: u8, text: &[u8]) -> Option<&[u8]>
+pub fn behind(byte: u8, text: &[u8]) -> Option<&[u8]>
     ensures { IfSome result (λ rest. text.now ≡ byte ∷ rest.now) }
 {
     if text.is_empty() || text[0] != byte {
@@ -66,54 +66,121 @@ fn unspaced(text: &[u8]) -> &[u8]
     &text[from..]
 }
 
-/// The order of all m alternatives that the text is in the usual shape; None also where memory is
-/// wanting.
-fn usual_order(alloc: Global, m: u16, text: &[u8]) -> Option<Ballot>
-    requires { m ≤ limit }
-    ensures order { IfSome result (λ order. order_after m [] (slice_split is_comma text.now) ≡ Ok order) }
-    ensures no_tie { IfSome result (λ _. list_any is_brace text.now ≡ false) }
-    ensures judged { IfSome result (λ order. order_fault m order ≡ None) }
+/// The order of all m alternatives, which are few, that the bytes begin with in the usual shape, and what stands
+/// behind it.
+fn few_order<'a>(m: u16, bytes: &'a [u8]) -> Option<(Few, &'a [u8])>
+    requires { m ≤ ALTERNATIVES_IN_PLACE }
+    ensures { IfSome result (λ r. BeginsWithOrder m bytes.now r.0 r.1.now) }
 {
-    let mut order = Ballot::with_room(alloc, usize::from(m)).ok()?;
-    let mut seen = AltSet::empty();
-    let mut rest = text;
+    let mut order = Few::none();
+    let mut seen = [false; ALTERNATIVES_IN_PLACE + 1];
+    let mut rest = bytes;
     loop {
         let next = leading_number(unspaced(rest))?;
         if next.number > u64::from(m) {
             return None;
         }
-        let x = next.number as u16;
-        if seen.has(x) {
+        let x = next.number as usize;
+        if seen[x] {
             return None;
         }
-        seen.put(x);
-        let Ok(()) = order.push(alloc, x) else {
-            return None;
-        };
-        if next.rest.is_empty() {
-            return if order.len() < usize::from(m) {
-                None
-            } else {
-                Some(order)
-            };
+        seen[x] = true;
+        order.push(next.number as u8);
+        if order.len() >= usize::from(m) {
+            return Some((order, next.rest));
         }
         rest = behind(b',', next.rest)?;
     }
 }
 
-/// The line of votes that the text is in the usual shape: no number has a leading zero, and blanks stand
-/// behind the colon and the commas alone, where they are spaces. None for any other text, and where
-/// memory is wanting.
-pub fn usual_line(alloc: Global, m: u16, text: &[u8]) -> Option<Entry>
-    requires { m ≤ limit }
-    ensures says { IfSome result (λ line. (votes : List Entry)
-        → with_votes m votes text.now ≡ with_order m votes line.weight line.order) }
-    ensures judged { IfSome result (λ line. order_fault m line.order ≡ None) }
+/// The order of all m alternatives, each of which fits a byte, that the bytes begin with in the usual shape, and
+/// what stands behind it; None also where memory is wanting.
+fn byte_order<'a>(alloc: Global, m: u16, bytes: &'a [u8]) -> Option<(Vec<u8>, &'a [u8])>
+    requires { m ≤ NARROW }
+    ensures { IfSome result (λ r. BeginsWithOrder m bytes.now r.0.items r.1.now) }
 {
-    let count = leading_number(text)?;
-    let order = usual_order(alloc, m, behind(b':', count.rest)?)?;
-    Some(Entry {
-        weight: count.number,
-        order,
-    })
+    let mut order: Vec<u8> = Vec::with_capacity(alloc, usize::from(m)).ok()?;
+    let mut seen = [false; NARROW + 1];
+    let mut rest = bytes;
+    loop {
+        let next = leading_number(unspaced(rest))?;
+        if next.number > u64::from(m) {
+            return None;
+        }
+        let x = next.number as usize;
+        if seen[x] {
+            return None;
+        }
+        seen[x] = true;
+        let Ok(()) = order.push(next.number as u8) else {
+            return None;
+        };
+        if order.len() >= usize::from(m) {
+            return Some((order, next.rest));
+        }
+        rest = behind(b',', next.rest)?;
+    }
+}
+
+/// The order of all m alternatives that the bytes begin with in the usual shape, and what stands behind it; None
+/// also where memory is wanting.
+fn wide_order<'a>(alloc: Global, m: u16, bytes: &'a [u8]) -> Option<(Vec<u16>, &'a [u8])>
+    requires { m ≤ limit }
+    ensures { IfSome result (λ r. BeginsWithOrder m bytes.now r.0.items r.1.now) }
+{
+    let mut order: Vec<u16> = Vec::with_capacity(alloc, usize::from(m)).ok()?;
+    let mut seen = [false; MARKS];
+    let mut rest = bytes;
+    loop {
+        let next = leading_number(unspaced(rest))?;
+        if next.number > u64::from(m) {
+            return None;
+        }
+        let x = next.number as usize;
+        if seen[x] {
+            return None;
+        }
+        seen[x] = true;
+        let Ok(()) = order.push(next.number as u16) else {
+            return None;
+        };
+        if order.len() >= usize::from(m) {
+            return Some((order, next.rest));
+        }
+        rest = behind(b',', next.rest)?;
+    }
+}
+
+/// The order of all m alternatives that the bytes begin with in the usual shape, and what stands behind it; None
+/// also where memory is wanting.
+fn usual_order<'a>(alloc: Global, m: u16, bytes: &'a [u8]) -> Option<(Ballot, &'a [u8])>
+    requires { m ≤ limit }
+    ensures { IfSome result (λ r. BeginsWithOrder m bytes.now r.0 r.1.now) }
+{
+    if usize::from(m) <= ALTERNATIVES_IN_PLACE {
+        let (few, rest) = few_order(m, bytes)?;
+        return Some((Ballot::of_few(few), rest));
+    }
+    if usize::from(m) <= NARROW {
+        let (places, rest) = byte_order(alloc, m, bytes)?;
+        if places.len() > NARROW {
+            return None;
+        }
+        return Some((Ballot::of_bytes(alloc, places).ok()?, rest));
+    }
+    let (places, rest) = wide_order(alloc, m, bytes)?;
+    Some((Ballot::of(alloc, places).ok()?, rest))
+}
+
+/// The line of votes that the bytes begin with in the usual shape, and what stands behind it: no number has a
+/// leading zero, and blanks stand behind the colon and the commas alone, where they are spaces. None for any other
+/// bytes, and where memory is wanting.
+pub fn usual_line<'a>(alloc: Global, m: u16, bytes: &'a [u8]) -> Option<(Entry, &'a [u8])>
+    requires { m ≤ limit }
+    ensures { IfSome result (λ r. BeginsWithVotes m bytes.now r.0.weight r.0.order r.1.now) }
+{
+    let count = leading_number(bytes)?;
+    let (order, rest) = usual_order(alloc, m, behind(b':', count.rest)?)?;
+    let weight = count.number;
+    Some((Entry { weight, order }, rest))
 }

@@ -1,5 +1,5 @@
 // Lines of votes.
-ghost use Rattle.std.specs.Prelude.{◌≡◌, ◌≤◌, ◌<◌, ℕ, [], List, None, Ok, Err, OnOk, IfOk, length};
+ghost use Rattle.std.specs.Prelude.{◌≡◌, ◌≤◌, ◌<◌, ℕ, [], List, None, Ok, Err, OnOk, IfOk, IfSome, MatchOption, length};
 ghost use Rattle.std.specs.Bool.{MatchBool};
 ghost use Rattle.std.specs.List.{list_any, slice_split};
 ghost use Rattle.vir_altset.specs.Sets.{limit};
@@ -7,12 +7,13 @@ ghost use Rattle.vir_profile.specs.OrderFaults.{member_fault_after};
 ghost use Rattle.vir_profile.specs.Profiles.{voters_limit};
 ghost use Rattle.vir_soc.specs.Reader.Answers.{Gives, kind_in};
 ghost use Rattle.vir_soc.specs.Reader.Steps.{stop_of};
+ghost use Rattle.vir_soc.specs.Reader.UsualLines.{BeginsWithEnd, BeginsWithLine};
 ghost use Rattle.vir_soc.specs.Votes.{alternative, is_brace, is_comma, order_after, with_order, with_votes};
 
 use crate::bytes::{cut, number, trim};
 use crate::kind::SocKind;
 use crate::stop::Stop;
-use crate::usual::usual_line;
+use crate::usual::{behind, usual_line};
 use std::alloc::Global;
 use vir_profile::{AddFault, AltSet, Ballot, Entry, LINES_LIMIT, Profile};
 
@@ -96,7 +97,7 @@ fn huge_count_fault(profile: &Profile, members: usize) -> SocKind
 
 /// Adds a line of this count and of an order none of whose members is at fault. A count above 2^64 is
 /// given as 2^64.
-fn add(profile: &mut Profile, count: u128, order: Vec<u16>) -> Result<(), Stop>
+fn add(alloc: Global, profile: &mut Profile, count: u128, order: Vec<u16>) -> Result<(), Stop>
     requires { member_fault_after profile.old.alternatives [] order.items ≡ None }
     ensures exact { Gives kind_in (λ _. profile.new.lines) result
         (with_order profile.old.alternatives profile.old.lines count order.items) }
@@ -106,7 +107,7 @@ fn add(profile: &mut Profile, count: u128, order: Vec<u16>) -> Result<(), Stop>
         return Err(Stop::Kind(huge_count_fault(profile, order.len())));
     }
     let weight = count as u64;
-    let order = Ballot::of(order);
+    let order = Ballot::of(alloc, order)?;
     match profile.add(Entry { weight, order }) {
         Ok(()) => Ok(()),
         Err(refused) => Err(stop_of(refused.fault)),
@@ -121,9 +122,34 @@ fn took_usual(alloc: Global, profile: &mut Profile, text: &[u8]) -> bool
     ensures alternatives { profile.new.alternatives ≡ profile.old.alternatives }
 {
     match usual_line(alloc, profile.alternatives(), text) {
-        Some(line) => profile.add_judged(line).is_ok(),
+        Some((line, rest)) => rest.is_empty() && profile.add_judged(line).is_ok(),
         None => false,
     }
+}
+
+/// What stands behind the end of a line, where the bytes begin with one.
+fn behind_end(bytes: &[u8]) -> Option<&[u8]>
+    ensures { IfSome result (λ rest. BeginsWithEnd bytes.now rest.now) }
+{
+    match behind(b'\r', bytes) {
+        Some(rest) => behind(b'\n', rest),
+        None => behind(b'\n', bytes),
+    }
+}
+
+/// Takes the line of votes with which the bytes begin, where it has the usual shape and an end, and there is room
+/// for it. Gives what stands behind its end.
+pub fn take_ended<'a>(alloc: Global, profile: &mut Profile, bytes: &'a [u8]) -> Option<&'a [u8]>
+    ensures taken { MatchOption result (profile.new ≡ profile.old) (λ rest.
+        BeginsWithLine profile.old.alternatives bytes.now profile.old.lines profile.new.lines rest.now) }
+    ensures alternatives { profile.new.alternatives ≡ profile.old.alternatives }
+{
+    let (line, end) = usual_line(alloc, profile.alternatives(), bytes)?;
+    let rest = behind_end(end)?;
+    let Ok(()) = profile.add_judged(line) else {
+        return None;
+    };
+    Some(rest)
 }
 
 /// Takes a line of votes.
@@ -155,5 +181,5 @@ fn with_any_votes(alloc: Global, profile: &mut Profile, text: &[u8]) -> Result<(
         return Err(Stop::Kind(SocKind::Tie));
     }
     let order = order(alloc, profile.alternatives(), rest)?;
-    add(profile, count, order)
+    add(alloc, profile, count, order)
 }

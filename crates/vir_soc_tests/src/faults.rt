@@ -102,6 +102,13 @@ const CASES: &[(&str, &str, u64)] = &[
     ("\n \t\r\n\n", "NoAlternativeCount", 4),
     ("\n1: 1\n", "NoAlternativeCount", 2),
     // Lines of votes.
+    ("# NUMBER ALTERNATIVES: 256\n1: 256,1\n", "Short", 2),
+    ("# NUMBER ALTERNATIVES: 256\n1: 256,256\n", "Repeated", 2),
+    ("# NUMBER ALTERNATIVES: 255\n1: 256\n", "OutOfRange", 2),
+    ("# NUMBER ALTERNATIVES: 2\n1: 1,2,1\n", "Repeated", 2),
+    ("# NUMBER ALTERNATIVES: 2\n1: 1,2\r\r\n1: 2,1 \n", "", 0),
+    ("# NUMBER ALTERNATIVES: 2\n1: 1,2\rx\n", "BadEntry", 2),
+    ("# NUMBER ALTERNATIVES: 2\n1: 1,2x\n", "BadEntry", 2),
     ("# NUMBER ALTERNATIVES: 3\n3: 1,2\n", "Short", 2),
     ("# NUMBER ALTERNATIVES: 3\n3: 1,{2,3}\n", "Tie", 2),
     ("# NUMBER ALTERNATIVES: 3\n3: 1,2,2\n", "Repeated", 2),

@@ -1,4 +1,5 @@
 -- What holds of the names that a reader keeps. The format itself does not stand on this.
+-- (The program's promises don't stand on this file.)
 use Rattle.std.specs.Prelude.{ℕ, suc, ◌≤◌, ◌<◌, List, [], ◌∷◌, length}
 use Rattle.vir_profile.specs.SocFiles.{IsNameText}
 

@@ -1,4 +1,5 @@
 -- How a reader goes on from line to line and from piece to piece. The format itself does not stand on this.
+-- (The program's promises don't stand on this file.)
 use Rattle.std.specs.Prelude.{ℕ, ◌+◌, ◌-◌, List, [], ◌∷◌, ◌++◌, length, take, Result, Ok, if◌then◌else◌, nat_eq, nat_lt}
 use Rattle.vir_profile.specs.SocFiles.{File, is_line_feed}
 use Rattle.vir_soc.specs.declared.kind.SocKind.{SocKind}

@@ -1,4 +1,5 @@
 -- What bytes a reader stands for.
+-- (The program's promises don't stand on this file.)
 use Rattle.std.specs.Prelude.{ℕ, List, length, Option, Some, None, Result, Ok, Err}
 use Rattle.vir_soc.specs.declared.fault.SocFault.{SocFault}
 use Rattle.vir_soc.specs.declared.fault.SocError.{SocError}

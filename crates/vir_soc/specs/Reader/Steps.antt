@@ -1,4 +1,5 @@
 -- The answer of a step on a line beside what the format says.
+-- (The program's promises don't stand on this file.)
 use Rattle.std.specs.Prelude.{ℕ, ◌≤◌, List, Option, Some, Result, Ok}
 use Rattle.vir_altset.specs.Sets.{limit}
 use Rattle.vir_profile.specs.declared.refused.AddFault.{AddFault}

@@ -1,4 +1,5 @@
 -- What the reader's parts are seen as.
+-- (The program's promises don't stand on this file.)
 use Rattle.std.specs.Prelude.{ℕ, List, [], Option, Some, None}
 use Rattle.vir_profile.specs.declared.ballot.Entry.{Entry}
 use Rattle.vir_profile.specs.Profiles.{Votes}

@@ -7,8 +7,8 @@ pub record SoFar (first now : Progress) (piece rest : List ℕ) : Type 0 where
   pub same : reads first piece ≡ reads now rest
   pub line : now.line + length rest ≤ first.line + length piece
 
-abbrev pub invariant-loop-reader : goal.invariant-loop-reader
-invariant-loop-reader l = SoFar (progress_of l.fn.reader) (progress_of l.reader) l.piece l.rest
+abbrev pub invariant-loop-after : goal.invariant-loop-after
+invariant-loop-after l = SoFar (progress_of l.fn.reader) (progress_of l.reader) l.piece l.rest
 
-abbrev pub decreases-loop-reader : goal.decreases-loop-reader
-decreases-loop-reader l = length l.rest
+abbrev pub decreases-loop-after : goal.decreases-loop-after
+decreases-loop-after l = length l.rest
