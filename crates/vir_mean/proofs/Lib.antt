@@ -1,6 +1,8 @@
 pub mod BordaAverage
 pub mod CutLoops
+pub mod DeferredMembers
 pub mod EliminatedSplits
+pub mod FirstInOrder
 pub mod FoundMembers
 pub mod Leaders
 pub mod LiftedEliminations
@@ -14,6 +16,7 @@ pub mod MemberListings
 pub mod MemberLists
 pub mod MemberSums
 pub mod MovedBack
+pub mod NewNames
 pub mod PairScores
 pub mod Passing
 pub mod RenamedElections
@@ -27,6 +30,8 @@ pub mod RestrictionLemmas
 pub mod ScoreComparisons
 pub mod ScoreSizes
 pub mod ScoreSums
+pub mod SmallElections
 pub mod SplitLines
+pub mod StillScores
 pub mod WeightLemmas
 pub mod WinnerScores

@@ -24,7 +24,7 @@ abbrev pub Splits : Meaning → Type 0
 Splits m = (a : Set) (lines : List Entry) → IsSplitOf a (m a lines)
 
 -- those that are to go are rejected, or nobody is
-eliminated-split : (a : Set) (test : ℕ → Bool) → IsSplitOf a (eliminated a (set.retain a test))
+pub eliminated-split : (a : Set) (test : ℕ → Bool) → IsSplitOf a (eliminated a (set.retain a test))
 eliminated-split a test = elim (set.is_subset a (set.retain a test)) as
     (λ b. IsSplitOf a (cond b (record { elected = set.empty; rejected = set.empty; deferred = a })
     (record { elected = set.empty; rejected = set.retain a test; deferred = set.difference a (set.retain a test) }))) [

@@ -1,5 +1,6 @@
 -- The greatest and the least of f over a list, and what a score is compared with: how the code finds who is
 -- eliminated. Only clauses of private functions cite this; what a module means doesn't rest on it.
+-- (The program's promises don't stand on this file.)
 use Rattle.std.specs.Prelude.{ℕ, min, Bool, List, [], ◌∷◌, Option, Some, None, ℤ, int_lt, int_le, ◌*ℤ◌, if◌then◌else◌}
 use Rattle.vir_mean.specs.declared.elimination.Elimination.{Elimination}
 use Rattle.vir_mean.specs.declared.elimination.Elimination.TheVariants.{Max, Min, Below, Upto}

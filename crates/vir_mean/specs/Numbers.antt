@@ -1,4 +1,5 @@
 -- Numbers kept for each alternative, that of x at place x - 1.
+-- (The program's promises don't stand on this file.)
 use Rattle.std.specs.Prelude.{◌≡◌, ℕ, ◌+◌, ◌-◌, ◌*◌, ◌^◌, ◌≤◌, true, List, length, slice_index, slice_index_or, ℤ, pos}
 use Rattle.std.specs.Prelude.{◌+ℤ◌, ◌≤ℤ◌}
 use Rattle.std.specs.FinSet as set

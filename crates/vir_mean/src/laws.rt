@@ -7,9 +7,9 @@ ghost use Rattle.vir_profile.specs.declared.ballot.Entry.{Entry};
 ghost use Rattle.vir_term.specs.declared.leaf.Leaf.TheVariants.{PassFirst};
 ghost use Rattle.vir_term.specs.declared.prop.Prop.TheVariants.{Defers, Neut};
 ghost use Rattle.vir_term.specs.Tree.{End, Tree, leaf, loop, exactly, at_most};
-ghost use Rattle.vir_mean.specs.Modules.{all_deferred, first_passed};
+ghost use Rattle.vir_mean.specs.Modules.{Meaning, all_deferred, first_passed};
 ghost use Rattle.vir_profile.specs.Elections.{IsElection};
-ghost use Rattle.vir_mean.specs.Neutrality.{IsRenaming, renamed_set, renamed_lines};
+ghost use Rattle.vir_mean.specs.Neutrality.{IsRenaming, renamed_set, renamed_lines, renamed_split};
 ghost use Rattle.vir_mean.specs.Compositions.{turn};
 ghost use Rattle.vir_mean.specs.Meaning.{mean};
 ghost use Rattle.vir_mean.specs.Properties.{Holds};
@@ -64,6 +64,15 @@ pub fn renamed_elections_are_elections()
 /// A module with a fixed order of its own isn't neutral: `pass(1)` passes 1 of 1 and 2, under whatever names.
 pub fn passing_is_not_neutral()
     ensures { Holds Neut (first_passed 1 []) → ⊥ }
+{}
+
+/// The new names may be numbers that aren't in the set, and `neut` speaks of these too. Some meaning does what it
+/// asks with each renaming of a set onto itself, and doesn't have it: say that all are elected where 1 is among
+/// them, and deferred where it isn't, and that 1 becomes 2.
+pub fn new_names_may_be_other_numbers()
+    ensures { (m : Meaning) × ((a : Set) (p : List Entry) (f : ℕ → ℕ) → IsElection a p → IsRenaming f a
+        → renamed_set f a ≡ a → m (renamed_set f a) (renamed_lines f p) ≡ renamed_split f (m a p))
+        × (Holds Neut m → ⊥) }
 {}
 
 /// A line of a profile may be split into two with the same order, whose weights add up to that of the

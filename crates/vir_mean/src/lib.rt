@@ -41,13 +41,14 @@ pub use fixed_orders::first_members;
 pub use laws::{
     alternatives_are_numbers_from_1_on, line_may_be_split, loop_goes_by_turns,
     loop_may_stop_below_its_number, loop_of_k_alternatives_stops, meanings_are_splits,
-    nothing_is_split_into_nothing, passing_is_not_neutral, renamed_elections_are_elections,
-    until_of_few_alternatives_stops,
+    new_names_may_be_other_numbers, nothing_is_split_into_nothing, passing_is_not_neutral,
+    renamed_elections_are_elections, until_of_few_alternatives_stops,
 };
 pub use lift_laws::{
-    changed_score_raises_the_lifted, lifted_leader_by_condorcet_score, lifted_score_never_falls,
-    moving_back_may_lower_a_score, no_other_score_rises, restricted_lift,
-    restriction_without_the_lifted, unchanged_profile_is_a_lift,
+    changed_score_may_leave_the_lifted, changed_score_raises_the_lifted,
+    lifted_leader_by_condorcet_score, lifted_score_never_falls, moving_back_may_lower_a_score,
+    no_other_score_rises, restricted_lift, restriction_without_the_lifted,
+    unchanged_profile_is_a_lift,
 };
 pub use lines::Lines;
 pub use members::list_members;

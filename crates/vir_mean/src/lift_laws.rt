@@ -7,7 +7,7 @@ ghost use Rattle.vir_profile.specs.declared.ballot.Entry.{Entry};
 ghost use Rattle.vir_profile.specs.Profiles.{IsProfileOn, restrict};
 ghost use Rattle.vir_profile.specs.Winners.{IsCondorcetWinner};
 ghost use Rattle.vir_term.specs.declared.score.Score.{Score};
-ghost use Rattle.vir_term.specs.declared.score.Score.TheVariants.{Plurality, Borda, Copeland, Condorcet};
+ghost use Rattle.vir_term.specs.declared.score.Score.TheVariants.{Plurality, Borda, Copeland, Minimax, Condorcet};
 ghost use Rattle.vir_mean.specs.Eliminators.{is_passed};
 ghost use Rattle.vir_mean.specs.Lifts.{SameBut, Lifts};
 ghost use Rattle.vir_mean.specs.Scores.{score};
@@ -50,6 +50,20 @@ pub fn changed_score_raises_the_lifted()
         → IsProfileOn a p → IsProfileOn a q → set.contains a x ≡ true → Lifts x p q
         → (y : ℕ) → set.contains a y ≡ true → y ≢ x → score Copeland a q y ≢ score Copeland a p y
         → score Copeland a p x <ℤ score Copeland a q x }
+{}
+
+/// By minimax and by the Condorcet score, a lift may change the score of another alternative and leave that of
+/// the lifted one as it is. By minimax it does so where 1 is lifted past 2 in the second of the orders 1, 2, 3
+/// and 3, 2, 1; by the Condorcet score, where 1 is lifted past 2 in one of two orders 2, 1.
+pub fn changed_score_may_leave_the_lifted()
+    ensures minimax { ((a : Set) (p q : List Entry) (x : ℕ)
+        → IsProfileOn a p → IsProfileOn a q → set.contains a x ≡ true → Lifts x p q
+        → (y : ℕ) → set.contains a y ≡ true → y ≢ x → score Minimax a q y ≢ score Minimax a p y
+        → score Minimax a p x <ℤ score Minimax a q x) → ⊥ }
+    ensures condorcet { ((a : Set) (p q : List Entry) (x : ℕ)
+        → IsProfileOn a p → IsProfileOn a q → set.contains a x ≡ true → Lifts x p q
+        → (y : ℕ) → set.contains a y ≡ true → y ≢ x → score Condorcet a q y ≢ score Condorcet a p y
+        → score Condorcet a p x <ℤ score Condorcet a q x) → ⊥ }
 {}
 
 /// Where no alternative has a greater Condorcet score than the one that is lifted, either all keep

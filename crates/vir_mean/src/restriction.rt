@@ -25,7 +25,7 @@ fn restricted_order(alloc: Global, order: &Ballot, domain: &AltSet) -> Result<Ba
             kept.push(x)?;
         }
     }
-    Ok(Ballot::of(kept))
+    Ballot::of(alloc, kept)
 }
 
 /// The lines with the members of the set alone; their weights and their number stay.
