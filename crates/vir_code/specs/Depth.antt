@@ -1,4 +1,5 @@
 -- The depth of a term's code.
+-- (The program's promises don't stand on this file.)
 use Rattle.std.specs.Prelude.{ℕ, ◌+◌, max}
 use Rattle.vir_term.specs.Tree.{Tree, leaf, rev, seq, par, loop}
 

@@ -1,4 +1,5 @@
 -- For a private clause alone: the depth by a pass over the instructions, each done once.
+-- (The program's promises don't stand on this file.)
 use Rattle.std.specs.Prelude.{ℕ, ◌+◌, ◌-◌, max, List, [], ◌∷◌}
 use Rattle.vir_code.specs.declared.instr.Instr.{Instr}
 use Rattle.vir_code.specs.declared.instr.Instr.TheVariants.{Call, KeepDomain, FetchDomain, JoinSeq, JoinMax, Revise}

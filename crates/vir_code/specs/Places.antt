@@ -1,4 +1,5 @@
 -- For private clauses and proofs alone: what stands at the places of a list of instructions.
+-- (The program's promises don't stand on this file.)
 use Rattle.std.specs.Prelude.{◌≡◌, ℕ, ◌+◌, ◌≤◌, List, [], ◌∷◌, Option, Some, MatchOption, slice_get}
 use Rattle.vir_term.specs.Tree.{Tree, End, size, nesting}
 use Rattle.vir_term.specs.Limits.{IsInRange}

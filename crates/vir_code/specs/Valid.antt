@@ -1,4 +1,5 @@
 -- Which lists of instructions are valid code.
+-- (The program's promises don't stand on this file.)
 use Rattle.std.specs.Prelude.{◌≡◌, ◌≤◌, ℕ, List, length}
 use Rattle.vir_term.specs.Tree.{Tree}
 use Rattle.vir_term.specs.Limits.{IsWithinLimits}

@@ -1,4 +1,5 @@
 -- Which modules are called: by the meaning of a term, and by a run of code. They stand in the order of their calls.
+-- (The program's promises don't stand on this file.)
 use Rattle.std.specs.Prelude.{ℕ, zero, suc, if◌then◌else◌, List, [], ◌∷◌, ◌++◌, Option, Some, None, length, slice_get}
 use Rattle.std.specs.FinSet as set
 use Rattle.vir_altset.specs.Sets.{Set}

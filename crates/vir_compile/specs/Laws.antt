@@ -1,4 +1,5 @@
 -- What is proved of the steps of a term's code.
+-- (The program's promises don't stand on this file.)
 use Rattle.std.specs.Prelude.{◌≡◌, ◌≤◌, ◌<◌, ◌↔◌, ◌⊎◌, ℕ, ◌+◌, List, [], ◌++◌, length, slice_get, Some}
 use Rattle.vir_altset.specs.Sets.{Set, IsPart}
 use Rattle.vir_altset.specs.declared.split.Split.{Split}

@@ -15,7 +15,7 @@ fn profile_of_one_voter(alloc: Global) -> Result<Profile, Fail> {
     for lower in 0..MANY {
         order.push(MANY - lower)?;
     }
-    let order = Ballot::of(order);
+    let order = Ballot::of(alloc, order)?;
     let mut profile = Profile::new(alloc, MANY);
     profile
         .add(Entry { weight: 1, order })

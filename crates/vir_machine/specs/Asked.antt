@@ -1,4 +1,5 @@
 -- For private clauses alone: the counters after a list of modules was asked for, one after the other.
+-- (The program's promises don't stand on this file.)
 use Rattle.std.specs.Prelude.{Bool, true, nat_eq, if◌then◌else◌, List, [], ◌∷◌}
 use Rattle.vir_term.specs.declared.leaf.Leaf.{Leaf}
 use Rattle.vir_term.specs.declared.leaf.LeafKind.{LeafKind}

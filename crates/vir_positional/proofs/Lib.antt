@@ -2,7 +2,6 @@ pub mod ElectionLines
 pub mod GainLemmas
 pub mod LiftedPlaces
 pub mod NamedScores
-pub mod ServedSplits
 pub mod SplitLaws
 pub mod WeighedLines
 pub mod WeightLaws

@@ -1,6 +1,6 @@
 -- The weights of plurality and of Borda give the scores of these names.
 use Rattle.std.proofs.Common.{◌≡◌, ℕ, suc, ◌+◌, ◌-◌, ◌*◌, ◌<◌, ◌≤◌, Bool, true, false, cond, not, nat_eq, List, [], ◌∷◌}
-use Rattle.std.proofs.Common.{length, filter, refl, sym, ap, ap₂, ◌∙◌, arith, pos, eqb-true}
+use Rattle.std.proofs.Common.{length, refl, sym, ap, ap₂, ◌∙◌, arith, pos}
 use Rattle.std.proofs.lemmas.Bool.Decides.{nat_tests}
 use Rattle.std.proofs.lemmas.List.Elements.{All-head, All-tail}
 use Rattle.std.proofs.lemmas.List.Sums.{sum_by-cons}
@@ -15,7 +15,7 @@ use Rattle.vir_mean.specs.FixedOrders.{place}
 use Rattle.vir_mean.specs.Lifts.{without}
 use Rattle.vir_mean.specs.Listings.{others, total}
 use Rattle.vir_mean.specs.Scores.{plurality_score, borda_score}
-use Rattle.vir_mean.proofs.MemberCounts.{often, lists_of, total_same, at_head}
+use Rattle.vir_mean.proofs.MemberCounts.{often, lists_of, total_same}
 use Rattle.vir_mean.proofs.MemberListings.{listing_without, others_list, often-filter, total_listings}
 use Rattle.vir_mean.proofs.MemberSums.{total-zero, total-plus}
 use Rattle.vir_positional.specs.declared.weight_form.WeightForm.TheVariants as form

@@ -1,5 +1,6 @@
 -- What the code adds up line by line. Only clauses of private functions cite this; what a positional score is doesn't
 -- rest on it.
+-- (The program's promises don't stand on this file.)
 use Rattle.std.specs.Prelude.{◌≡◌, ℕ, suc, ◌+◌, ◌<◌, Bool, List, [], ◌∷◌, length, slice_index, nat_eq, if◌then◌else◌}
 use Rattle.vir_altset.specs.Sets.{limit}
 

@@ -1,5 +1,5 @@
 -- Positional scores, and the eliminators that go by them.
-use Rattle.std.specs.Prelude.{ℕ, ◌+◌, ◌*◌, List, sum_by, ℤ, pos}
+use Rattle.std.specs.Prelude.{ℕ, ◌*◌, List, sum_by, ℤ, pos}
 use Rattle.std.specs.FinSet as set
 use Rattle.vir_altset.specs.Sets.{Set}
 use Rattle.vir_altset.specs.declared.split.Split.{Split}

@@ -5,8 +5,7 @@ use Rattle.vir_positional.specs.declared.weight_form.WeightForm.TheVariants as f
 use Rattle.vir_positional.specs.WeightLists.{are_weights, last_weight}
 
 -- the weight of a place, counted from 0, among n places: of plurality 1 at the front and 0 elsewhere; of Borda the
--- number of places
--- behind it; of a list its member at that place, or its last one past its end
+-- number of places behind it; of a list its member at that place, or its last one past its end
 abbrev pub weight_of : WeightForm → ℕ → ℕ → ℕ
 weight_of form.Plurality place n = if nat_eq place 0 then 1 else 0
 weight_of form.Borda place n = n - 1 - place

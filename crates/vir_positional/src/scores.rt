@@ -2,6 +2,7 @@
 ghost use Rattle.std.specs.Prelude.{◌≡◌, true, length};
 ghost use Rattle.std.specs.FinSet as set;
 ghost use Rattle.vir_altset.specs.Sets.{all, limit, IsPart};
+ghost use Rattle.vir_altset.specs.Splits.{IsSplitOf};
 ghost use Rattle.vir_mean.specs.Members.{AreMembers};
 ghost use Rattle.vir_mean.specs.Numbers.{AreScores, AreSmall};
 ghost use Rattle.vir_profile.specs.Profiles.{restrict};
@@ -27,8 +28,9 @@ pub fn positional_score<W: Weighing>(rule: &W, election: &Election, domain: &Alt
     sums[usize::from(x) - 1] as i128
 }
 
-// Fills in the scores of all members, that of x at place x - 1.
-fn fill<W: Weighing>(
+/// Fills an array with the positional scores of the members of a set, that of x at place x - 1. The other
+/// places stay as they are. It goes over the lines once.
+pub fn fill<W: Weighing>(
     rule: &W,
     election: &Election,
     domain: &AltSet,
@@ -60,8 +62,9 @@ pub fn positional_split<W: Weighing>(
     domain: &AltSet,
 ) -> Split
     requires { IsPart domain.now (all election.now.profile.alternatives) }
-    ensures { result ≡ positional_split kind (W.kept rule.now) domain.now
+    ensures exact { result ≡ positional_split kind (W.kept rule.now) domain.now
         (restrict domain.now election.now.profile.lines) }
+    ensures split { IsSplitOf domain.now result }
 {
     let mut list = [0u16; PLACES];
     let count = list_members(domain, &mut list);

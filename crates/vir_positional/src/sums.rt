@@ -1,5 +1,5 @@
 // The positional scores of all members of a set, added up in one pass over the lines.
-ghost use Rattle.std.specs.Prelude.{◌≡◌, ◌+◌, ◌*◌, ◌<◌, ◌≤◌, ◌^◌, ℕ, All, false, true, length, slice_index};
+ghost use Rattle.std.specs.Prelude.{◌≡◌, ◌+◌, ◌*◌, ◌<◌, ◌≤◌, ◌^◌, ℕ, true, length, slice_index};
 ghost use Rattle.std.specs.FinSet as set;
 ghost use Rattle.vir_altset.specs.Sets.{all, limit, IsPart};
 ghost use Rattle.vir_mean.specs.Numbers.{number_of};
@@ -12,24 +12,8 @@ ghost use Rattle.vir_positional.specs.Weights.{weight_of};
 
 use crate::weighing::Weighing;
 use vir_mean::PLACES;
-use vir_profile::{AltSet, LIMIT};
-use vir_tables::Election;
-
-// The places of a list of marks: one for each alternative, at its number.
-const MARKS: usize = PLACES + 1;
-
-// Marks the members of a set.
-fn mark(domain: &AltSet, marks: &mut [bool])
-    requires size { length marks.old ≡ MARKS }
-    requires none { is_marked marks.old 0 ≡ false }
-    ensures size { length marks.new ≡ MARKS }
-    ensures marked { (x : ℕ) → is_marked marks.new x ≡ set.contains domain.now x }
-{
-    domain.bounded();
-    for x in 1..LIMIT + 1 {
-        marks[usize::from(x)] = domain.has(x);
-    }
-}
+use vir_profile::{AltSet, NARROW};
+use vir_tables::{Election, MARKS, mark};
 
 // Lists the weights of so many places.
 fn list_weights<W: Weighing>(rule: &W, places: u16, weights: &mut [u64])
@@ -87,11 +71,12 @@ pub(crate) fn add_up<W: Weighing>(rule: &W, election: &Election, domain: &AltSet
     let mut weights = [0u64; PLACES];
     list_weights(rule, domain.count(), &mut weights);
     sums.fill(0);
+    let mut room = [0; NARROW];
     for i in 0..election.lines() {
         if let Some(line) = election.line(i) {
             add_line(
                 sums,
-                line.order.alternatives(),
+                line.order.alternatives(&mut room),
                 &marks,
                 &weights,
                 line.weight,

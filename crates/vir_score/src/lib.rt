@@ -6,7 +6,8 @@
 //! exactly the score of their name, as `vir_mean` defines it on the ballots that are restricted
 //! literally, and `eliminate` gives the split that the eliminator of that score gives there. So who
 //! computes a score is free in how, and not in what. None of it takes memory. It stands on
-//! `vir_tables`, whose elections it asks, and on `vir_mean`, whose definitions it meets.
+//! `vir_tables`, whose elections it asks, on `vir_positional`, by which it finds Borda's scores where an
+//! election has no table, and on `vir_mean`, whose definitions it meets.
 #![tactic(auto)]
 
 mod elimination;

@@ -20,6 +20,15 @@ weight_where-drop test lines i line within here =
     ∙ ap (λ (e : Entry). cond (test e.order) e.weight 0 + weight_where test (drop (suc i) lines)) (sym here)
     ∙ ap (λ k. cond (test line.order) line.weight 0 + weight_where test (drop k lines)) (sym (add-one i))
 
+-- the same of all weights
+pub total_weight-drop : (lines : List Entry) (i : ℕ) (line : Entry) → i < length lines → line ≡ get_or lines i line
+    → total_weight (drop i lines) ≡ line.weight + total_weight (drop (i + 1) lines)
+total_weight-drop lines i line within here =
+    ap total_weight (drop-cons lines i line within)
+    ∙ sum_by-cons (λ (e : Entry). e.weight) (get_or lines i line) (drop (suc i) lines)
+    ∙ ap (λ (e : Entry). e.weight + total_weight (drop (suc i) lines)) (sym here)
+    ∙ ap (λ k. line.weight + total_weight (drop k lines)) (sym (add-one i))
+
 -- no weight is greater than that of all lines
 pub weight_where_le_total : (test : List ℕ → Bool) (lines : List Entry) → weight_where test lines ≤ total_weight lines
 weight_where_le_total test [] = omega arith

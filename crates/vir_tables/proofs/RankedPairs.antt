@@ -1,13 +1,12 @@
--- The pairs that an order ranks, counted from its front.
-use Rattle.std.proofs.Common.{◌≡◌, ◌≢◌, ℕ, zero, suc, ◌+◌, ◌<◌, ◌≤◌, Bool, true, false, cond, List, [], ◌∷◌, length}
-use Rattle.std.proofs.Common.{get_or, drop, nat_eq, refl, sym, ap, ap₂, ◌∙◌, arith, add-one, eqb-true, subst}
-use Rattle.std.proofs.Math.Seq.{drop-cons}
+-- Which of two alternatives an order puts before the other.
+use Rattle.std.proofs.Common.{◌≡◌, ℕ, zero, suc, ◌+◌, ◌<◌, ◌≤◌, Bool, true, false, cond, List, [], ◌∷◌, length}
+use Rattle.std.proofs.Common.{get_or, nat_eq, nat_lt, refl, sym, ap, ap₂, ◌∙◌, arith, eqb-true, subst}
 use Rattle.std.proofs.lemmas.Bool.Decides.{nat_tests}
 use Rattle.std.specs.FinSet as set
 use Rattle.vir_altset.specs.Sets.{all}
 use Rattle.vir_profile.specs.Orders.{IsListing, puts_before, times}
 use Rattle.vir_profile.proofs.OrderLaws.{listed_member, listed_once, member_of_all, range_of_member, times-cons}
-use Rattle.vir_tables.specs.Additions.{AreAlternatives, weight_of}
+use Rattle.vir_tables.specs.Additions.{AreAlternatives}
 use Rattle.vir_tables.specs.Table.{IsAlternative}
 use Rattle.vir_tables.proofs.Cells.{eq_itself}
 
@@ -49,156 +48,53 @@ listed_alternatives m order lists = record {
       (let e = times-occurs (get_or order i 0) order in let some = occurs_at order i h in omega arith));
 }
 
--- ---- what is added for an order, from a place on
--- the weight for each a in the order and each b behind it
-abbrev pub pairs : ℕ → ℕ → ℕ → List ℕ → ℕ
-pairs weight a b [] = 0
-pairs weight a b (z ∷ rest) = cond (nat_eq a z) (weight_of b weight rest) 0 + pairs weight a b rest
-
-pub pairs-drop : (w a b i : ℕ) (o : List ℕ) → i < length o → pairs w a b (drop i o) ≡ cond (nat_eq a (get_or o i 0))
-    (weight_of b w (drop (i + 1) o)) 0 + pairs w a b (drop (i + 1) o)
-pairs-drop w a b i o h = rw (drop-cons o i 0 h, add-one i) refl
-
-weight_of_none : (w b : ℕ) (o : List ℕ) → occurs b o ≡ 0 → weight_of b w o ≡ 0
-weight_of_none w b [] h = refl
-weight_of_none w b (z ∷ o) h = step (nat_eq b z) (occurs b o) h (weight_of_none w b o)
-  where
-    step : (c : Bool) (n : ℕ) → bit c + n ≡ 0 → (n ≡ 0 → weight_of b w o ≡ 0) → cond c w 0 + weight_of b w o ≡ 0
-    step c n h k = grind arith
-
-weight_of_one : (w b : ℕ) (o : List ℕ) → occurs b o ≡ 1 → weight_of b w o ≡ w
-weight_of_one w b [] h = absurd (omega arith)
-weight_of_one w b (z ∷ o) h = step (nat_eq b z) h (weight_of_none w b o) (weight_of_one w b o)
-  where
-    step : (c : Bool) → bit c + occurs b o ≡ 1 → (occurs b o ≡ 0 → weight_of b w o ≡ 0)
-        → (occurs b o ≡ 1 → weight_of b w o ≡ w) → cond c w 0 + weight_of b w o ≡ w
-    step true h f g = let k = f (omega arith) in omega arith
-    step false h f g = let k = g (omega arith) in omega arith
-
-pub pairs_none : (w a b : ℕ) (o : List ℕ) → occurs a o ≡ 0 → pairs w a b o ≡ 0
-pairs_none w a b [] h = refl
-pairs_none w a b (z ∷ o) h = step (nat_eq a z) (occurs a o) h (pairs_none w a b o)
-  where
-    step : (c : Bool) (n : ℕ) → bit c + n ≡ 0 → (n ≡ 0 → pairs w a b o ≡ 0) → cond c (weight_of b w o) 0 + pairs w a b o
-        ≡ 0
-    step c n h k = grind arith
-
-pairs_nothing : (w a b : ℕ) (o : List ℕ) → occurs b o ≡ 0 → pairs w a b o ≡ 0
-pairs_nothing w a b [] h = refl
-pairs_nothing w a b (z ∷ o) h = step (nat_eq a z) (let k : occurs b o ≡ 0 = omega arith in weight_of_none w b o k)
-    (let k : occurs b o ≡ 0 = omega arith in pairs_nothing w a b o k)
-  where
-    step : (c : Bool) → weight_of b w o ≡ 0 → pairs w a b o ≡ 0 → cond c (weight_of b w o) 0 + pairs w a b o ≡ 0
-    step c h k = grind arith
-
--- a stands in the order, and b not before it, tried in this order
-abbrev before : ℕ → ℕ → List ℕ → Bool
-before a b [] = false
-before a b (z ∷ o) = cond (nat_eq a z) true (cond (nat_eq b z) false (before a b o))
-
-before_is : (a b : ℕ) → a ≢ b → (o : List ℕ) → before a b o ≡ puts_before a b o
-before_is a b n [] = refl
-before_is a b n (z ∷ o) = step a b z (before a b o) n ∙ ap (λ r. cond (nat_eq z b) false (cond (nat_eq z a) true r))
-    (before_is a b n o)
-  where
-    step : (a b z : ℕ) (r : Bool) → a ≢ b → cond (nat_eq a z) true (cond (nat_eq b z) false r) ≡ cond (nat_eq z b) false
-        (cond (nat_eq z a) true r)
-    step a b z r n = grind (arith, nat_tests)
-
-pairs_before : (w a b : ℕ) (o : List ℕ) → a ≢ b → occurs a o ≡ 1 → occurs b o ≡ 1 → pairs w a b o
-    ≡ cond (before a b o) w 0
-pairs_before w a b [] n h k = absurd (omega arith)
-pairs_before w a b (z ∷ o) n h k = elim (nat_eq a z) as (λ c. nat_eq a z ≡ c → cond c (weight_of b w o) 0
-    + pairs w a b o ≡ cond (cond c true (cond (nat_eq b z) false (before a b o))) w 0) [
-      | true ↦ λ e.
-          let u : occurs a o ≡ 0 = let q = ap bit e in omega arith in
-          let v : occurs b o ≡ 1 = other z e h k in
-          let q = pairs_none w a b o u in
-          let r = weight_of_one w b o v in
-          omega arith
-      | false ↦ λ e.
-          let u : occurs a o ≡ 1 = let q = ap bit e in omega arith in
-          elim (nat_eq b z) as (λ d. nat_eq b z ≡ d → 0 + pairs w a b o ≡ cond (cond d false (before a b o)) w 0) [
-            | true ↦ λ d.
-                let v : occurs b o ≡ 0 = let q = ap bit d in omega arith in
-                let k = pairs_nothing w a b o v in
-                omega arith
-            | false ↦ λ d.
-                let v : occurs b o ≡ 1 = let q = ap bit d in omega arith in
-                let k = pairs_before w a b o n u v in
-                omega arith
-          ] refl
-    ] refl
-  where
-    other : (z : ℕ) → nat_eq a z ≡ true → occurs a (z ∷ o) ≡ 1 → occurs b (z ∷ o) ≡ 1 → occurs b o ≡ 1
-    other z e h k = let s = eqb-true a z e in let f : nat_eq b z ≡ false = grind (arith, nat_tests) in let q = ap bit f
-        in omega arith
-
--- no alternative stands behind itself
-pairs_itself : (w a : ℕ) (o : List ℕ) → occurs a o ≤ 1 → pairs w a a o ≡ 0
-pairs_itself w a [] h = refl
-pairs_itself w a (z ∷ o) h = step (nat_eq a z) (occurs a o) h (weight_of_none w a o) (pairs_itself w a o)
-  where
-    step : (c : Bool) (n : ℕ) → bit c + n ≤ 1 → (n ≡ 0 → weight_of a w o ≡ 0) → (n ≤ 1 → pairs w a a o ≡ 0)
-        → cond c (weight_of a w o) 0 + pairs w a a o ≡ 0
-    step c n h f g = grind arith
-
+-- ---- what an order puts before what
 -- no order puts an alternative before itself
-puts_itself : (a : ℕ) (o : List ℕ) → puts_before a a o ≡ false
+pub puts_itself : (a : ℕ) (o : List ℕ) → puts_before a a o ≡ false
 puts_itself a [] = refl
 puts_itself a (z ∷ o) = step (nat_eq z a) (puts_before a a o) (puts_itself a o)
   where
     step : (c r : Bool) → r ≡ false → cond c false (cond c true r) ≡ false
     step c r h = grind arith
 
--- of an order of all alternatives the weight is counted for the pairs that it ranks
-pub pairs_ranked : (m w a b : ℕ) (o : List ℕ) → IsListing (all m) o → IsAlternative m a → IsAlternative m b
-    → pairs w a b o ≡ cond (puts_before a b o) w 0
-pairs_ranked m w a b o lists ha hb = elim (nat_eq a b) as (λ c. nat_eq a b ≡ c → pairs w a b o
-    ≡ cond (puts_before a b o) w 0) [
-      | true ↦ λ e. let same = eqb-true a b e in
-          ap (λ c. pairs w a c o) (sym same) ∙ pairs_itself w a o (occurs_once m o lists a) ∙ ap (λ t. cond t w 0)
-          (sym (puts_itself a o) ∙ ap (λ c. puts_before a c o) same)
-      | false ↦ λ e. let apart : a ≢ b = grind (arith, nat_tests) in
-          pairs_before w a b o apart (occurs_each m o lists a ha) (occurs_each m o lists b hb) ∙ ap (λ t. cond t w 0)
-          (before_is a b apart o)
-    ] refl
+-- what stands further on isn't what stands in front
+not_in_front : (y z q : ℕ) (o : List ℕ) → q < length o → get_or o q 0 ≡ y → occurs y (z ∷ o) ≤ 1 → nat_eq z y ≡ false
+not_in_front y z q o h e one = step (nat_eq y z) (nat_eq z y) (occurs y o) one
+    (subst (λ x. 0 < occurs x o) e (occurs_at o q h)) (turn y z)
+  where
+    step : (c d : Bool) (n : ℕ) → bit c + n ≤ 1 → 0 < n → d ≡ c → d ≡ false
+    step c d n h k e = grind arith
+
+in_front : (z y : ℕ) → z ≡ y → nat_eq z y ≡ true
+in_front z y e = grind (arith, nat_tests)
+
+lower_suc : (p q : ℕ) → nat_lt (suc p) (suc q) ≡ nat_lt p q
+lower_suc p q = grind (arith, nat_tests)
+
+lower_than_0 : (p : ℕ) → nat_lt p 0 ≡ false
+lower_than_0 p = grind (arith, nat_tests)
+
+zero_lower : (q : ℕ) → nat_lt 0 (suc q) ≡ true
+zero_lower q = grind (arith, nat_tests)
+
+-- an order puts before what stands at a lower place
+pub lower_is_before : (x y p q : ℕ) (o : List ℕ) → p < length o → q < length o → get_or o p 0 ≡ x → get_or o q 0 ≡ y
+    → occurs x o ≤ 1 → occurs y o ≤ 1 → nat_lt p q ≡ puts_before x y o
+lower_is_before x y p q [] hp hq px qy ox oy = absurd (omega arith)
+lower_is_before x y p zero (z ∷ o) hp hq px qy ox oy = lower_than_0 p ∙ sym (ap (λ c. cond c false (cond (nat_eq z x)
+    true (puts_before x y o))) (in_front z y qy))
+lower_is_before x y zero (suc q) (z ∷ o) hp hq px qy ox oy =
+    zero_lower q ∙ sym (ap₂ (λ c d. cond c false (cond d true (puts_before x y o)))
+    (not_in_front y z q o (omega arith) qy oy) (in_front z x px))
+lower_is_before x y (suc p) (suc q) (z ∷ o) hp hq px qy ox oy =
+    lower_suc p q
+    ∙ lower_is_before x y p q o (omega arith) (omega arith) px qy (omega arith) (omega arith)
+    ∙ sym (ap₂ (λ c d. cond c false (cond d true (puts_before x y o)))
+    (not_in_front y z q o (omega arith) qy oy) (not_in_front x z p o (omega arith) px ox))
 
 -- what a test of both ends tells
 pub member_of_range : (m x : ℕ) → 1 ≤ x → x ≤ m → set.contains (all m) x ≡ true
 member_of_range m x low high = member_of_all m x (low, high)
-
--- from where a stands on, the weight is counted for what is behind it
-pub pairs_at : (w a b p : ℕ) (o : List ℕ) → p < length o → get_or o p 0 ≡ a → occurs a o ≤ 1 → pairs w a b o
-    ≡ weight_of b w (drop (suc p) o)
-pairs_at w a b p [] h e one = absurd (omega arith)
-pairs_at w a b zero (z ∷ o) h e one =
-    let t : nat_eq a z ≡ true = ap (λ y. nat_eq a y) e ∙ eq_itself a in
-    let n : occurs a o ≡ 0 = let q = ap bit t in omega arith in
-    let none = pairs_none w a b o n in
-    ap (λ c. cond c (weight_of b w o) 0 + pairs w a b o) t ∙ ap (λ k. weight_of b w o + k) none ∙ plus (weight_of b w o)
-  where
-    plus : (n : ℕ) → n + 0 ≡ n
-    plus n = omega arith
-pairs_at w a b (suc p) (z ∷ o) h e one =
-    let some : 0 < occurs a o = subst (λ y. 0 < occurs y o) e (occurs_at o p (omega arith)) in
-    let f : nat_eq a z ≡ false = not_bit (nat_eq a z) (occurs a o) one some in
-    let few : occurs a o ≤ 1 = omega arith in
-    ap (λ c. cond c (weight_of b w o) 0 + pairs w a b o) f ∙ plus (pairs w a b o) ∙ pairs_at w a b p o (omega arith) e
-    few
-  where
-    plus : (n : ℕ) → 0 + n ≡ n
-    plus n = omega arith
-
-    not_bit : (c : Bool) (n : ℕ) → bit c + n ≤ 1 → 0 < n → c ≡ false
-    not_bit c n h k = grind arith
-
--- the same, as the order ranks them
-pub rest_ranked : (m w x b p : ℕ) (o : List ℕ) → IsListing (all m) o → IsAlternative m x → IsAlternative m b
-    → p < length o → get_or o p 0 ≡ x → weight_of b w (drop (p + 1) o) ≡ cond (puts_before x b o) w 0
-rest_ranked m w x b p o lists hx hb h e =
-    ap (λ k. weight_of b w (drop k o)) (add-one p) ∙ sym (pairs_at w x b p o h e (occurs_once m o lists x))
-    ∙ pairs_ranked m w x b o lists hx hb
 
 -- where an alternative stands
 pub record StandsAt (x : ℕ) (o : List ℕ) : Type 0 where

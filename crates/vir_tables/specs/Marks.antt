@@ -1,4 +1,5 @@
 -- Marks of alternatives, that of x at place x.
+-- (The program's promises don't stand on this file.)
 use Rattle.std.specs.Prelude.{ℕ, List, Bool, false, slice_index_or}
 
 -- whether x is marked

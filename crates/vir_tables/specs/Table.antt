@@ -1,5 +1,6 @@
 -- Tables with a number for each ordered pair of the alternatives from 1 to m: a row for each of them, and
 -- in it a place for each.
+-- (The program's promises don't stand on this file.)
 use Rattle.std.specs.Prelude.{◌≡◌, ℕ, ◌+◌, ◌-◌, ◌*◌, ◌≤◌, List, length, slice_index}
 use Rattle.vir_profile.specs.Profiles.{pairwise_weight}
 use Rattle.vir_profile.specs.declared.ballot.Entry.{Entry}
@@ -20,6 +21,10 @@ cell table m x y = slice_index table (index m x y)
 -- The table has for each pair what f gives.
 pub record Holds (m : ℕ) (table : List ℕ) (f : ℕ → ℕ → ℕ) : Type 0 where
   pub at : (x y : ℕ) → IsAlternative m x → IsAlternative m y → cell table m x y ≡ f x y
+
+-- The table has for each pair what f gives, where the first alternative isn't greater than the second.
+pub record HoldsFrom (m : ℕ) (table : List ℕ) (f : ℕ → ℕ → ℕ) : Type 0 where
+  pub at : (x y : ℕ) → IsAlternative m x → IsAlternative m y → x ≤ y → cell table m x y ≡ f x y
 
 -- The table has for each pair how many voters put the first before the second.
 pub record IsTable (m : ℕ) (table : List ℕ) (lines : List Entry) : Type 0 where

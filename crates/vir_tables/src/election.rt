@@ -40,15 +40,15 @@ impl Model for Election {
 }
 
 impl Election {
-    /// The election of this file, with a table. It takes memory for the table, 8 bytes a pair, and drops
-    /// the file where that is wanting.
+    /// The election of this file, with a table. It takes memory for the table, 8 bytes a pair, and while it
+    /// fills it 256 bytes an alternative, and drops the file where that is wanting.
     pub fn of(alloc: Global, file: SocFile) -> Result<Election, AllocError>
         ensures { IfOk result (λ election. election ≡ file) }
     {
         let profile = file.profile();
         let m = profile.alternatives();
         let mut table = vec![in alloc; 0u64; usize::from(m) * usize::from(m)]?;
-        fill(alloc, &mut table, m, profile.entries())?;
+        fill(alloc, &mut table, m, profile.entries(), profile.total())?;
         Ok(Election {
             file,
             table: Some(table),
@@ -61,6 +61,11 @@ impl Election {
         ensures { result ≡ file }
     {
         Election { file, table: None }
+    }
+
+    /// Whether it has a table, so that a question about a pair is one look into it.
+    pub fn has_table(&self) -> bool {
+        self.table.is_some()
     }
 
     /// The number of alternatives, which are the numbers from 1 to it.

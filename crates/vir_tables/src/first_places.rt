@@ -1,5 +1,5 @@
 // First places among the members of a set, added up over the lines.
-ghost use Rattle.std.specs.Prelude.{◌≡◌, ◌+◌, ◌<◌, ◌≤◌, ◌^◌, ℕ, All, filter, false, true, length, if◌then◌else◌};
+ghost use Rattle.std.specs.Prelude.{◌≡◌, ◌+◌, ◌<◌, ◌≤◌, ◌^◌, ℕ, All, filter, true, length, if◌then◌else◌};
 ghost use Rattle.std.specs.FinSet as set;
 ghost use Rattle.std.specs.List.{find};
 ghost use Rattle.vir_altset.specs.Sets.{limit};
@@ -10,32 +10,39 @@ ghost use Rattle.vir_tables.specs.Additions.{AreAlternatives};
 ghost use Rattle.vir_tables.specs.Marks.{is_marked};
 
 use vir_mean::PLACES;
-use vir_profile::{AltSet, Entry, LIMIT};
+use vir_profile::{AltSet, Ballot, Entry, LIMIT};
 
-// The places of a list of marks: one for each alternative, at its number.
-const MARKS: usize = PLACES + 1;
+/// The places of a list of marks: one for each alternative, at its number.
+pub const MARKS: usize = PLACES + 1;
 
-// Marks the members of a set.
-fn mark(domain: &AltSet, marks: &mut [bool])
+/// Marks the members of a set, each at its number.
+pub fn mark(domain: &AltSet, marks: &mut [bool])
     requires size { length marks.old ≡ MARKS }
-    requires none { is_marked marks.old 0 ≡ false }
     ensures size { length marks.new ≡ MARKS }
     ensures marked { (x : ℕ) → is_marked marks.new x ≡ set.contains domain.now x }
 {
     domain.bounded();
-    for x in 1..LIMIT + 1 {
-        marks[usize::from(x)] = domain.has(x);
+    marks.fill(false);
+    let mut last = 0;
+    for _turn in 0..LIMIT {
+        match domain.first_after(last) {
+            Some(x) => {
+                marks[usize::from(x)] = true;
+                last = x;
+            }
+            None => return,
+        }
     }
 }
 
 // The first alternative of the order that is marked.
-fn first_marked(order: &[u16], marks: &[bool]) -> Option<u16>
+fn first_marked(order: &Ballot, marks: &[bool]) -> Option<u16>
     requires marks { length marks.now ≡ MARKS }
     requires listed { AreAlternatives limit order.now }
     ensures { result ≡ find (is_marked marks.now) order.now }
 {
     for i in 0..order.len() {
-        let x = order[i];
+        let x = order.at(i);
         if marks[usize::from(x)] {
             return Some(x);
         }
@@ -44,7 +51,7 @@ fn first_marked(order: &[u16], marks: &[bool]) -> Option<u16>
 }
 
 // Whether x is the first alternative of the order that is marked.
-fn is_first(order: &[u16], marks: &[bool], x: u16) -> bool
+fn is_first(order: &Ballot, marks: &[bool], x: u16) -> bool
     requires marks { length marks.now ≡ MARKS }
     requires listed { AreAlternatives limit order.now }
     ensures { result ≡ begins_with x (filter (is_marked marks.now) order.now) }
@@ -53,7 +60,7 @@ fn is_first(order: &[u16], marks: &[bool], x: u16) -> bool
 }
 
 // Adds the weight at the first alternative of the order that is marked.
-fn add_first(weights: &mut [u64], order: &[u16], marks: &[bool], weight: u64)
+fn add_first(weights: &mut [u64], order: &Ballot, marks: &[bool], weight: u64)
     requires size { length weights.old ≡ limit }
     requires marks { length marks.now ≡ MARKS }
     requires listed { AreAlternatives limit order.now }
@@ -80,7 +87,7 @@ pub fn first_weight_of(lines: &[Entry], domain: &AltSet, x: u16) -> u64
     mark(domain, &mut marks);
     let mut weight = 0;
     for line in lines {
-        if is_first(line.order.alternatives(), &marks, x) {
+        if is_first(&line.order, &marks, x) {
             weight += line.weight;
         }
     }
@@ -99,6 +106,6 @@ pub fn first_weights_of(lines: &[Entry], domain: &AltSet, weights: &mut [u64])
     mark(domain, &mut marks);
     weights.fill(0);
     for line in lines {
-        add_first(weights, line.order.alternatives(), &marks, line.weight);
+        add_first(weights, &line.order, &marks, line.weight);
     }
 }

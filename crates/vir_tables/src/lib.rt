@@ -4,12 +4,13 @@
 //! The contract of this layer: an `Election` is its file, a profile with names. Its table, where it has
 //! one, holds for each pair how many voters put the first before the second, so that a pair is asked
 //! about by one look into the table; without a table the same is told by going over the lines. It is a
-//! `Tally` of its profile, restricted to any set of its alternatives. The table is one allocation,
-//! filled by `Election::of`: a small one line by line, and a large one in blocks of lines, one row after
-//! another, for which the places of all alternatives in the lines of a block are noted in a second
-//! allocation. Nothing else takes memory. First places among the members of a set stand in no table:
-//! they are added up line by line. It stands on `vir_profile`, whose lines it goes over, and on
-//! `vir_mean`, whose `Tally` it implements.
+//! `Tally` of its profile, restricted to any set of its alternatives. The table is one allocation, filled
+//! by `Election::of` in blocks of lines, for which a second allocation notes the places of each alternative
+//! in the lines of a block. Each pair is counted one way round by comparing places, which a processor does
+//! for many lines at once; the other way round it has what is left of the voters. Nothing else takes
+//! memory. First places among the members of a set stand in no table: they are added up line by line, by
+//! marks of the members. It stands on `vir_profile`, whose lines it goes over, and on `vir_mean`, whose
+//! `Tally` it implements.
 #![tactic(auto)]
 
 mod election;
@@ -20,3 +21,4 @@ mod table;
 mod tests;
 
 pub use election::Election;
+pub use first_places::{MARKS, mark};

@@ -3,14 +3,14 @@ ghost use Rattle.std.specs.Prelude.{◌≡◌, ◌<◌, ◌^◌};
 ghost use Rattle.vir_profile.specs.Orders.{puts_before};
 ghost use Rattle.vir_profile.specs.Profiles.{pairwise_weight, total_weight};
 
-use vir_profile::Entry;
+use vir_profile::{Ballot, Entry};
 
 // Whether the order puts x before y.
-fn puts_before(order: &[u16], x: u16, y: u16) -> bool
+fn puts_before(order: &Ballot, x: u16, y: u16) -> bool
     ensures { result ≡ puts_before x y order.now }
 {
     for i in 0..order.len() {
-        let z = order[i];
+        let z = order.at(i);
         if z == y {
             return false;
         }
@@ -28,7 +28,7 @@ pub fn pairwise_weight_of(lines: &[Entry], x: u16, y: u16) -> u64
 {
     let mut weight = 0;
     for line in lines {
-        if puts_before(line.order.alternatives(), x, y) {
+        if puts_before(&line.order, x, y) {
             weight += line.weight;
         }
     }

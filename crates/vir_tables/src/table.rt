@@ -1,16 +1,15 @@
 // Tables of pairs: one number for each ordered pair of alternatives, row after row.
-ghost use Rattle.std.specs.Prelude.{◌≡◌, ◌+◌, ◌-◌, ◌*◌, ◌<◌, ◌≤◌, ◌^◌, ℕ, All, None, OnOk, length, slice_index, drop};
-ghost use Rattle.std.specs.Prelude.{nat_eq, if◌then◌else◌};
-ghost use Rattle.vir_altset.specs.Sets.{all, limit};
+ghost use Rattle.std.specs.Prelude.{◌≡◌, ◌+◌, ◌-◌, ◌*◌, ◌<◌, ◌≤◌, ◌^◌, ℕ, All, None, OnOk, IsTrue, length, slice_index};
+ghost use Rattle.std.specs.Prelude.{false, nat_eq, nat_lt, if◌then◌else◌};
+ghost use Rattle.vir_altset.specs.Sets.{limit};
 ghost use Rattle.vir_profile.specs.OrderFaults.{order_fault};
-ghost use Rattle.vir_profile.specs.Orders.{IsListing, puts_before};
-ghost use Rattle.vir_profile.specs.Profiles.{IsProfile, pairwise_weight};
-ghost use Rattle.vir_tables.specs.Additions.{AreAlternatives, weight_of};
-ghost use Rattle.vir_tables.specs.Places.{ArePlaces, HasPlace};
-ghost use Rattle.vir_tables.specs.Table.{index, cell, Holds, IsAlternative, IsTable};
+ghost use Rattle.vir_profile.specs.Profiles.{IsProfile, pairwise_weight, total_weight};
+ghost use Rattle.vir_tables.specs.Additions.{AreWeights, weight_before};
+ghost use Rattle.vir_tables.specs.Places.{ArePlaces, HasPlace, HaveRows};
+ghost use Rattle.vir_tables.specs.Table.{index, cell, Holds, HoldsFrom, IsAlternative, IsTable};
 
 use std::alloc::{AllocError, Global};
-use vir_profile::Entry;
+use vir_profile::{Entry, NARROW};
 
 /// The place of the pair of x and y in a table for m alternatives.
 pub fn index(m: u16, x: u16, y: u16) -> usize
@@ -22,141 +21,216 @@ pub fn index(m: u16, x: u16, y: u16) -> usize
     (usize::from(x) - 1) * usize::from(m) + (usize::from(y) - 1)
 }
 
-// Adds the weight in a row at each alternative that stands in the order from a place on.
-fn add_in_row(row: &mut [u64], order: &[u16], from: usize, weight: u64)
-    requires listed { AreAlternatives (length row.old) order.now }
-    requires from { from ≤ length order.now }
-    requires room { (b : ℕ) → IsAlternative (length row.old) b
-        → slice_index row.old (b - 1) + weight_of b weight (drop from order.now) < 2 ^ 64 }
-    ensures added { (b : ℕ) → IsAlternative (length row.old) b
-        → slice_index row.new (b - 1) ≡ slice_index row.old (b - 1) + weight_of b weight (drop from order.now) }
-{
-    for j in from..order.len() {
-        row[usize::from(order[j]) - 1] += weight;
-    }
-}
+// How many lines are added at once.
+const BLOCK: usize = 128;
 
-// Adds the weight for x and each alternative that stands in the order from a place on.
-fn add_after(table: &mut [u64], m: u16, x: u16, order: &[u16], from: usize, weight: u64)
-    requires size { length table.old ≡ m * m }
-    requires row { IsAlternative m x }
-    requires listed { AreAlternatives m order.now }
-    requires from { from ≤ length order.now }
-    requires room { (b : ℕ) → IsAlternative m b
-        → cell table.old m x b + weight_of b weight (drop from order.now) < 2 ^ 64 }
-    ensures size { length table.new ≡ m * m }
-    ensures added { Holds m table.new (λ a b. cell table.old m a b
-        + (if nat_eq a x then weight_of b weight (drop from order.now) else 0)) }
-{
-    let start = usize::from(x - 1) * usize::from(m);
-    let row = &mut table[start..start + usize::from(m)];
-    add_in_row(row, order, from, weight);
-}
-
-// Adds the weight for each pair that the order ranks.
-fn add_line(table: &mut [u64], m: u16, order: &[u16], weight: u64)
-    requires size { length table.old ≡ m * m }
-    requires complete { IsListing (all m) order.now }
-    requires room { (a b : ℕ) → IsAlternative m a → IsAlternative m b
-        → cell table.old m a b + (if puts_before a b order.now then weight else 0) < 2 ^ 64 }
-    ensures size { length table.new ≡ m * m }
-    ensures added { Holds m table.new (λ a b. cell table.old m a b
-        + (if puts_before a b order.now then weight else 0)) }
-{
-    for i in 0..order.len() {
-        add_after(table, m, order[i], order, i + 1, weight);
-    }
-}
-
-// Fills a table of zeros, one line after another.
-fn fill_by_lines(table: &mut [u64], m: u16, lines: &[Entry])
-    requires size { length table.old ≡ m * m }
-    requires zeros { Holds m table.old (λ a b. 0) }
-    requires known { IsProfile (record { alternatives = m; lines = lines.now }) }
-    ensures { IsTable m table.new lines.now }
-{
-    for line in lines {
-        add_line(table, m, line.order.alternatives(), line.weight);
-    }
-}
-
-// Notes at which place of the order each alternative stands.
-fn find_places(places: &mut [u16], order: &[u16])
-    requires listed { AreAlternatives (length places.old) order.now }
+// Notes at line l of n lines at which place of the order each alternative stands.
+fn find_places(places: &mut [u16], n: usize, l: usize, order: &[u16])
+    requires line { l < n }
+    requires listed { HaveRows n (length places.old) order.now }
     requires short { length order.now < 2 ^ 16 }
-    ensures { (k : ℕ) → k < length order.now
-        → HasPlace order.now places.new (slice_index order.now k - 1) (slice_index order.now k) }
+    ensures found { (k : ℕ) → k < length order.now
+        → HasPlace order.now places.new ((slice_index order.now k - 1) * n + l) (slice_index order.now k) }
+    ensures others { (a j : ℕ) → j < n → nat_eq j l ≡ false
+        → slice_index places.new (a * n + j) ≡ slice_index places.old (a * n + j) }
 {
     for i in 0..order.len() {
-        places[usize::from(order[i]) - 1] = i as u16;
+        places[(usize::from(order[i]) - 1) * n + l] = i as u16;
     }
 }
 
-// Notes at which place of its order each line has each alternative.
+// Notes for each alternative at which place of its order each line has it.
 fn find_all(places: &mut [u16], m: u16, lines: &[Entry])
-    requires size { length lines.now * m ≤ length places.old }
+    requires size { m * length lines.now ≤ length places.old }
     requires known { All (λ line. order_fault m line.order ≡ None) lines.now }
-    ensures found { ArePlaces m (length lines.now) places.new lines.now }
+    ensures found { ArePlaces m (length lines.now) (length lines.now) places.new lines.now }
+{
+    let mut room = [0; NARROW];
+    for (l, line) in lines.iter().enumerate() {
+        find_places(places, lines.len(), l, line.order.alternatives(&mut room));
+    }
+}
+
+// Notes the weights of the lines.
+fn note_weights(weights: &mut [u64], lines: &[Entry])
+    requires size { length weights.old ≡ length lines.now }
+    ensures size { length weights.new ≡ length lines.now }
+    ensures noted { AreWeights weights.new lines.now }
 {
     for (l, line) in lines.iter().enumerate() {
-        let start = l * usize::from(m);
-        let own = &mut places[start..start + usize::from(m)];
-        find_places(own, line.order.alternatives());
+        weights[l] = line.weight;
     }
 }
 
-// Adds to the row of x what each of the lines gives.
-fn add_row(row: &mut [u64], m: u16, x: u16, lines: &[Entry], places: &[u16])
-    requires size { length row.old ≡ m }
-    requires row { IsAlternative m x }
-    requires known { All (λ line. order_fault m line.order ≡ None) lines.now }
-    requires enough { length lines.now * m ≤ length places.now }
-    requires places { ArePlaces m (length lines.now) places.now lines.now }
-    requires room { (b : ℕ) → IsAlternative m b → slice_index row.old (b - 1) + pairwise_weight lines.now x b < 2 ^ 64 }
-    ensures added { (b : ℕ) → IsAlternative m b
+// Notes the weights of the lines in 16 bits, and whether that holds their sum.
+fn note_light_weights(weights: &mut [u16], lines: &[Entry]) -> bool
+    requires size { length weights.old ≡ length lines.now }
+    ensures size { length weights.new ≡ length lines.now }
+    ensures light { IsTrue result → total_weight lines.now < 2 ^ 16 }
+    ensures noted { IsTrue result → AreWeights weights.new lines.now }
+{
+    let mut sum: u16 = 0;
+    for (l, line) in lines.iter().enumerate() {
+        if line.weight > u64::from(u16::MAX - sum) {
+            return false;
+        }
+        weights[l] = line.weight as u16;
+        sum += line.weight as u16;
+    }
+    true
+}
+
+// The weight of the lines that have the first alternative at a lower place than the second. It is added in 16 bits,
+// so that a processor adds for many lines at once.
+fn light_weight_before(first: &[u16], second: &[u16], weights: &[u16]) -> u16
+    requires first { length first.now ≡ length weights.now }
+    requires second { length second.now ≡ length weights.now }
+    requires room { weight_before (length weights.now) first.now second.now weights.now < 2 ^ 16 }
+    ensures { result ≡ weight_before (length weights.now) first.now second.now weights.now }
+{
+    let mut sum: u16 = 0;
+    for l in 0..weights.len() {
+        let weight = weights[l];
+        sum += if first[l] < second[l] { weight } else { 0 };
+    }
+    sum
+}
+
+// The same in 64 bits.
+fn heavy_weight_before(first: &[u16], second: &[u16], weights: &[u64]) -> u64
+    requires first { length first.now ≡ length weights.now }
+    requires second { length second.now ≡ length weights.now }
+    requires room { weight_before (length weights.now) first.now second.now weights.now < 2 ^ 64 }
+    ensures { result ≡ weight_before (length weights.now) first.now second.now weights.now }
+{
+    let mut sum: u64 = 0;
+    for l in 0..weights.len() {
+        let weight = weights[l];
+        sum += if first[l] < second[l] { weight } else { 0 };
+    }
+    sum
+}
+
+// The same, in 16 bits where the weights of the block are noted so.
+fn block_weight_before(
+    first: &[u16],
+    second: &[u16],
+    light: &[u16],
+    heavy: &[u64],
+    is_light: bool,
+) -> u64
+    requires first { length first.now ≡ length heavy.now }
+    requires second { length second.now ≡ length heavy.now }
+    requires light { length light.now ≡ length heavy.now }
+    requires same { IsTrue is_light → weight_before (length light.now) first.now second.now light.now
+        ≡ weight_before (length heavy.now) first.now second.now heavy.now }
+    requires small { IsTrue is_light → weight_before (length light.now) first.now second.now light.now < 2 ^ 16 }
+    requires room { weight_before (length heavy.now) first.now second.now heavy.now < 2 ^ 64 }
+    ensures { result ≡ weight_before (length heavy.now) first.now second.now heavy.now }
+{
+    if is_light {
+        u64::from(light_weight_before(first, second, light))
+    } else {
+        heavy_weight_before(first, second, heavy)
+    }
+}
+
+// Adds to the row of x, for x and what has a greater number, what the lines give.
+fn add_row(
+    row: &mut [u64],
+    x: u16,
+    lines: &[Entry],
+    places: &[u16],
+    light: &[u16],
+    heavy: &[u64],
+    is_light: bool,
+)
+    requires row { IsAlternative (length row.old) x }
+    requires known { All (λ line. order_fault (length row.old) line.order ≡ None) lines.now }
+    requires enough { length row.old * length lines.now ≤ length places.now }
+    requires places { ArePlaces (length row.old) (length lines.now) (length lines.now) places.now lines.now }
+    requires light_size { length light.now ≡ length lines.now }
+    requires light_sum { IsTrue is_light → total_weight lines.now < 2 ^ 16 }
+    requires light { IsTrue is_light → AreWeights light.now lines.now }
+    requires heavy_size { length heavy.now ≡ length lines.now }
+    requires heavy { AreWeights heavy.now lines.now }
+    requires room { (b : ℕ) → IsAlternative (length row.old) b → x ≤ b
+        → slice_index row.old (b - 1) + pairwise_weight lines.now x b < 2 ^ 64 }
+    ensures added { (b : ℕ) → IsAlternative (length row.old) b → x ≤ b
         → slice_index row.new (b - 1) ≡ slice_index row.old (b - 1) + pairwise_weight lines.now x b }
 {
-    for (l, line) in lines.iter().enumerate() {
-        let place = places[l * usize::from(m) + (usize::from(x) - 1)];
-        add_in_row(
-            row,
-            line.order.alternatives(),
-            usize::from(place) + 1,
-            line.weight,
-        );
+    let n = lines.len();
+    let start = (usize::from(x) - 1) * n;
+    let first = &places[start..start + n];
+    for y in usize::from(x)..row.len() {
+        let second = &places[y * n..y * n + n];
+        row[y] += block_weight_before(first, second, light, heavy, is_light);
     }
 }
 
-// Adds what each of the lines gives, one row after another.
-fn fill_block(table: &mut [u64], m: u16, lines: &[Entry], places: &mut [u16])
+// Adds what the lines give, one row after another.
+fn add_rows(
+    table: &mut [u64],
+    m: u16,
+    lines: &[Entry],
+    places: &[u16],
+    light: &[u16],
+    heavy: &[u64],
+    is_light: bool,
+)
     requires size { length table.old ≡ m * m }
     requires few { m ≤ limit }
-    requires enough { length lines.now * m ≤ length places.old }
     requires known { All (λ line. order_fault m line.order ≡ None) lines.now }
-    requires room { (a b : ℕ) → IsAlternative m a → IsAlternative m b
+    requires enough { m * length lines.now ≤ length places.now }
+    requires places { ArePlaces m (length lines.now) (length lines.now) places.now lines.now }
+    requires light_size { length light.now ≡ length lines.now }
+    requires light_sum { IsTrue is_light → total_weight lines.now < 2 ^ 16 }
+    requires light { IsTrue is_light → AreWeights light.now lines.now }
+    requires heavy_size { length heavy.now ≡ length lines.now }
+    requires heavy { AreWeights heavy.now lines.now }
+    requires room { (a b : ℕ) → IsAlternative m a → IsAlternative m b → a ≤ b
         → cell table.old m a b + pairwise_weight lines.now a b < 2 ^ 64 }
     ensures size { length table.new ≡ m * m }
-    ensures places { length places.new ≡ length places.old }
-    ensures added { Holds m table.new (λ a b. cell table.old m a b + pairwise_weight lines.now a b) }
+    ensures added { HoldsFrom m table.new (λ a b. cell table.old m a b + pairwise_weight lines.now a b) }
 {
-    find_all(places, m, lines);
     for x in 1..m + 1 {
         let start = usize::from(x - 1) * usize::from(m);
         let row = &mut table[start..start + usize::from(m)];
-        add_row(row, m, x, lines, places);
+        add_row(row, x, lines, places, light, heavy, is_light);
     }
 }
 
-// How many lines are added at once.
-const BLOCK: usize = 64;
+// Adds what each of the lines gives.
+fn fill_block(table: &mut [u64], m: u16, lines: &[Entry], places: &mut [u16])
+    requires size { length table.old ≡ m * m }
+    requires few { m ≤ limit }
+    requires short { length lines.now ≤ BLOCK }
+    requires enough { m * length lines.now ≤ length places.old }
+    requires known { All (λ line. order_fault m line.order ≡ None) lines.now }
+    requires room { (a b : ℕ) → IsAlternative m a → IsAlternative m b → a ≤ b
+        → cell table.old m a b + pairwise_weight lines.now a b < 2 ^ 64 }
+    ensures size { length table.new ≡ m * m }
+    ensures places { length places.new ≡ length places.old }
+    ensures added { HoldsFrom m table.new (λ a b. cell table.old m a b + pairwise_weight lines.now a b) }
+{
+    find_all(places, m, lines);
+    let mut light = [0; BLOCK];
+    let light = &mut light[..lines.len()];
+    let mut heavy = [0; BLOCK];
+    let heavy = &mut heavy[..lines.len()];
+    let is_light = note_light_weights(light, lines);
+    note_weights(heavy, lines);
+    add_rows(table, m, lines, places, light, heavy, is_light);
+}
 
-// Fills a table of zeros, one block of lines after another.
+// Fills the half of a table of zeros in which the first alternative isn't greater, one block of lines after another.
 fn fill_by_blocks(table: &mut [u64], m: u16, lines: &[Entry], places: &mut [u16])
     requires size { length table.old ≡ m * m }
     requires zeros { Holds m table.old (λ a b. 0) }
     requires enough { BLOCK * m ≤ length places.old }
     requires known { IsProfile (record { alternatives = m; lines = lines.now }) }
-    ensures { IsTable m table.new lines.now }
+    ensures size { length table.new ≡ m * m }
+    ensures filled { HoldsFrom m table.new (pairwise_weight lines.now) }
 {
     let mut start = 0;
     while start < lines.len() {
@@ -166,22 +240,52 @@ fn fill_by_blocks(table: &mut [u64], m: u16, lines: &[Entry], places: &mut [u16]
     }
 }
 
-// Up to so many alternatives a table is so small that all of it is at hand while lines are added.
-const SMALL: u16 = 128;
+// Writes the row of x below x: of each pair, the voters that don't put it the other way.
+fn complete_row(table: &mut [u64], m: u16, x: u16, voters: u64)
+    requires size { length table.old ≡ m * m }
+    requires row { IsAlternative m x }
+    requires room { (b : ℕ) → IsAlternative m b → b ≤ x → cell table.old m b x ≤ voters }
+    ensures size { length table.new ≡ m * m }
+    ensures written { Holds m table.new (λ a b. if nat_eq a x then
+        (if nat_lt b x then voters - cell table.old m b x else cell table.old m a b) else cell table.old m a b) }
+{
+    for y in 1..x {
+        table[index(m, x, y)] = voters - table[index(m, y, x)];
+    }
+}
 
-/// Fills a table of zeros. A small table is filled one line after another; a large one in blocks of
-/// lines, one row after another in each, so that it is gone through once a block. That takes memory.
-pub fn fill(alloc: Global, table: &mut [u64], m: u16, lines: &[Entry]) -> Result<(), AllocError>
+// Writes the half of a table in which the first alternative is greater, from the other half.
+fn complete(table: &mut [u64], m: u16, voters: u64)
+    requires size { length table.old ≡ m * m }
+    requires few { m ≤ limit }
+    requires room { (a b : ℕ) → IsAlternative m a → IsAlternative m b → a ≤ b → cell table.old m a b ≤ voters }
+    ensures size { length table.new ≡ m * m }
+    ensures written { Holds m table.new (λ a b. if nat_lt b a then voters - cell table.old m b a
+        else cell table.old m a b) }
+{
+    for x in 1..m + 1 {
+        complete_row(table, m, x, voters);
+    }
+}
+
+/// Fills a table of zeros, given the number of voters. One half is filled in blocks of lines, one row after another
+/// in each, by the places that each line gives the alternatives; the other half is what is left of the voters. It
+/// takes memory for the places of a block.
+pub fn fill(
+    alloc: Global,
+    table: &mut [u64],
+    m: u16,
+    lines: &[Entry],
+    voters: u64,
+) -> Result<(), AllocError>
     requires size { length table.old ≡ m * m }
     requires zeros { Holds m table.old (λ a b. 0) }
     requires known { IsProfile (record { alternatives = m; lines = lines.now }) }
+    requires voters { voters ≡ total_weight lines.now }
     ensures { OnOk result (IsTable m table.new lines.now) }
 {
-    if m <= SMALL {
-        fill_by_lines(table, m, lines);
-        return Ok(());
-    }
     let mut places = vec![in alloc; 0u16; BLOCK * usize::from(m)]?;
     fill_by_blocks(table, m, lines, &mut places);
+    complete(table, m, voters);
     Ok(())
 }

@@ -6,7 +6,7 @@ use crate::Election;
 use std::alloc::{AllocError, Global};
 use std::process::Abort;
 use vir_mean::PLACES;
-use vir_profile::{AltSet, Ballot, Entry, LIMIT, Name, NameText, Profile, SocFile};
+use vir_profile::{AltSet, Ballot, Entry, LIMIT, NARROW, Name, NameText, Profile, SocFile};
 
 // Adds a line of this weight and this order.
 fn add(
@@ -106,6 +106,17 @@ fn pairs_without_a_table(rt: HostRuntime) -> Result<(), AllocError> {
     Ok(())
 }
 
+// Lines whose weights have no sum in 16 bits.
+const HEAVY_LINES: &[(u64, &[u16])] = &[(70_000, &[1, 2]), (65_535, &[2, 1]), (5, &[2, 1])];
+
+#[test]
+fn pairs_of_heavy_lines(rt: HostRuntime) -> Result<(), AllocError> {
+    let election = election_of(&rt, rt.alloc(), 2, HEAVY_LINES)?;
+    expect_pair(&rt, &election, 1, 2, 70_000, true);
+    expect_pair(&rt, &election, 2, 1, 65_540, false);
+    Ok(())
+}
+
 // Alternatives, the given one first and the others in ascending order behind it.
 fn order_led_by(alloc: Global, m: u16, first: u16) -> Result<Vec<u16>, AllocError> {
     let mut order = Vec::new(alloc);
@@ -118,7 +129,7 @@ fn order_led_by(alloc: Global, m: u16, first: u16) -> Result<Vec<u16>, AllocErro
     Ok(order)
 }
 
-// So many alternatives that a table is filled in blocks of lines. The last block isn't full.
+// So many lines that a table is filled in two blocks of them. The last one isn't full.
 const MANY: u16 = 130;
 
 // Each alternative leads one line, of as many voters as its number, and so many voters are there in all.
@@ -160,10 +171,11 @@ fn pairs_by_blocks_of_lines_and_without_a_table(rt: HostRuntime) -> Result<(), A
 }
 
 fn expect_line(rt: &impl Abort, election: &Election, i: usize, weight: u64, order: &[u16]) {
+    let mut room = [0; NARROW];
     match election.line(i) {
         Some(line) => {
             assert!(rt;
-                line.weight == weight && line.order.alternatives() == order,
+                line.weight == weight && line.order.alternatives(&mut room) == order,
                 "line {i}"
             );
         }

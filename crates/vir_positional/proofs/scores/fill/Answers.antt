@@ -1,6 +1,4 @@
-use Rattle.std.proofs.Common.{ℕ, ◌≤◌, arith, pos, sym, subst}
-use Rattle.std.specs.FinSet as set
-use Rattle.vir_mean.specs.Numbers.{score_bound, IsWithin}
+use Rattle.std.proofs.Common.{arith}
 use Rattle.vir_mean.proofs.MemberLists.{scores_filled}
 use Rattle.vir_positional.proofs.WeighedLines.{natural_score}
 use Rattle.vir_positional.proofs.scores.fill.Goals as goal

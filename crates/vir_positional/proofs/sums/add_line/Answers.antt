@@ -1,5 +1,5 @@
-use Rattle.std.proofs.Common.{◌≡◌, ◌<◌, ℕ, true, ◌*◌, ◌∙◌, length, get_or, sym, ap, ap₂, arith}
-use Rattle.std.proofs.Math.ListN.{set as put, length-set}
+use Rattle.std.proofs.Common.{◌<◌, ℕ, ◌*◌, ◌∙◌, length, get_or, sym, ap, ap₂, arith}
+use Rattle.std.proofs.Math.ListN.{length-set}
 use Rattle.vir_tables.specs.Marks.{is_marked}
 use Rattle.vir_positional.proofs.GainLemmas.{gained_more, gained_same}
 use Rattle.vir_positional.proofs.sums.add_line.Goals as goal

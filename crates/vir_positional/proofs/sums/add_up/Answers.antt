@@ -1,7 +1,7 @@
-use Rattle.std.proofs.Common.{◌≡◌, ◌+◌, ◌≤◌, ℕ, true, ◌∙◌, length, get_or, drop, filter, Some, sym, ap, arith, subst}
+use Rattle.std.proofs.Common.{◌+◌, ◌≤◌, ℕ, ◌∙◌, length, sym, ap, arith, subst}
 use Rattle.std.specs.FinSet as set
 use Rattle.std.specs.Option.{option_copied}
-use Rattle.vir_altset.specs.Sets.{all, limit}
+use Rattle.vir_altset.specs.Sets.{all}
 use Rattle.vir_mean.specs.Numbers.{number_of}
 use Rattle.vir_profile.proofs.OrderLaws.{range_of_member}
 use Rattle.vir_positional.specs.Gains.{AreFirst}

@@ -1,4 +1,4 @@
-use Rattle.std.proofs.Common.{◌∙◌, sym, ap, cond, arith, filter}
+use Rattle.std.proofs.Common.{◌∙◌, sym, ap, cond, arith}
 use Rattle.std.specs.FinSet as set
 use Rattle.vir_profile.specs.Orders.{begins_with}
 use Rattle.vir_tables.specs.Marks.{is_marked}
@@ -11,8 +11,7 @@ overflow_add-weight c =
     let lines = c.args.lines.now in
     let d = c.args.domain.now in
     let line = c.line-item.result in
-    let same = ap (filter (is_marked c.mark.new.marks)) c.alternatives.ensures ∙ same_kept (is_marked c.mark.new.marks)
-    (set.contains d) line.order c.mark.ensures.marked in
+    let same = same_kept (is_marked c.mark.new.marks) (set.contains d) line.order c.mark.ensures.marked in
     let counts = ap (λ b. cond b line.weight 0) (ap (begins_with c.args.x) (sym same) ∙ sym c.is_first.ensures
     ∙ c.if-is_first.true) in
     omega (
@@ -28,8 +27,7 @@ loop-line-preserved c =
     let lines = c.args.lines.now in
     let d = c.args.domain.now in
     let line = c.line-item.result in
-    let same = ap (filter (is_marked c.mark.new.marks)) c.alternatives.ensures ∙ same_kept (is_marked c.mark.new.marks)
-    (set.contains d) line.order c.mark.ensures.marked in
+    let same = same_kept (is_marked c.mark.new.marks) (set.contains d) line.order c.mark.ensures.marked in
     let next = first_weight-drop c.args.x d lines c.loop-line.line-index line (omega arith) c.line-item.is in
     let told = ap (begins_with c.args.x) (sym same) ∙ sym c.is_first.ensures in
     elim c.if-is_first.branch [

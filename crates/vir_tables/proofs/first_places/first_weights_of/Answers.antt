@@ -1,4 +1,4 @@
-use Rattle.std.proofs.Common.{◌≡◌, ◌+◌, ◌∙◌, sym, ap, cond, arith, filter, drop}
+use Rattle.std.proofs.Common.{◌≡◌, ◌+◌, ◌∙◌, sym, ap, cond, arith, drop}
 use Rattle.std.specs.FinSet as set
 use Rattle.vir_mean.specs.Numbers.{number_of}
 use Rattle.vir_profile.specs.Orders.{begins_with}
@@ -13,8 +13,7 @@ add_first-requires-clause-room c x low high begins =
     let d = c.args.domain.now in
     let line = c.line-item.result in
     let same = same_kept (is_marked c.mark.new.marks) (set.contains d) line.order c.mark.ensures.marked in
-    let counts = ap (λ b. cond b line.weight 0) (ap (begins_with x) (sym same ∙ ap (filter (is_marked c.mark.new.marks))
-    (sym c.alternatives.ensures)) ∙ begins) in
+    let counts = ap (λ b. cond b line.weight 0) (ap (begins_with x) (sym same) ∙ begins) in
     let before : number_of c.loop-line.weights x + first_weight (restrict d (drop c.loop-line.line-index lines)) x
     ≡ first_weight (restrict d lines) x = c.loop-line.invariant x low high in
     omega (
@@ -30,8 +29,7 @@ loop-line-preserved c x low high =
     let lines = c.args.lines.now in
     let d = c.args.domain.now in
     let line = c.line-item.result in
-    let same = ap (filter (is_marked c.mark.new.marks)) c.alternatives.ensures ∙ same_kept (is_marked c.mark.new.marks)
-    (set.contains d) line.order c.mark.ensures.marked in
+    let same = same_kept (is_marked c.mark.new.marks) (set.contains d) line.order c.mark.ensures.marked in
     let added = ap (λ o. cond (begins_with x o) line.weight 0) same in
     omega (
       arith,

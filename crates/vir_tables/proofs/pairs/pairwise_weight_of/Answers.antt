@@ -7,7 +7,7 @@ pub overflow_add-weight : goal.overflow_add-weight
 overflow_add-weight c =
     let lines = c.args.lines.now in
     let line = c.line-item.result in
-    let told = ap (puts_before c.args.x c.args.y) (sym c.alternatives.ensures) ∙ sym c.puts_before.ensures
+    let told = sym c.puts_before.ensures
     ∙ c.if-puts_before.true in
     let counts = ap (λ b. cond b line.weight 0) told in
     omega (

@@ -11,6 +11,6 @@ invariant-loop-start l = record {
   start : l.start ≤ length l.lines;
   size : length l.table ≡ l.m * l.m;
   places : length l.places ≡ length l.initial.places;
-  cells : (a b : ℕ) → IsAlternative l.m a → IsAlternative l.m b → cell l.table l.m a b
+  cells : (a b : ℕ) → IsAlternative l.m a → IsAlternative l.m b → a ≤ b → cell l.table l.m a b
       + pairwise_weight (drop l.start l.lines) a b ≡ pairwise_weight l.lines a b;
 }

@@ -17,7 +17,7 @@ use Rattle.vir_mean.proofs.EliminatedSplits.{goes_same, retain_same}
 use Rattle.vir_counter.specs.Kinds.{eliminator_kinds, has_kind}
 use Rattle.vir_positional.specs.declared.weight_form.WeightForm.{WeightForm}
 use Rattle.vir_positional.specs.declared.weight_form.WeightForm.TheVariants as form
-use Rattle.vir_positional.specs.Kinds.{served_kinds}
+use Rattle.vir_counter.specs.PositionalKinds.{served_kinds}
 use Rattle.vir_positional.specs.Positional.{positional, positional_split}
 use Rattle.vir_positional.proofs.NamedScores.{plurality_by_weights, borda_by_weights}
 

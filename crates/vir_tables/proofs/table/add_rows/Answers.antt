@@ -5,7 +5,7 @@ use Rattle.vir_profile.specs.Profiles.{pairwise_weight}
 use Rattle.vir_tables.specs.Table.{cell, IsAlternative}
 use Rattle.vir_tables.proofs.Rows.{cell_after, cell_in_row, row_length}
 use borrow.Rule.Slice.PartMut.{put_mid, mid_of, same_len_mid}
-use Rattle.vir_tables.proofs.table.fill_block.Goals as goal
+use Rattle.vir_tables.proofs.table.add_rows.Goals as goal
 
 -- rows below x are done, and then x is
 one_row : (a x : ℕ) (old row first given : ℕ) → (nat_eq a x ≡ true → row ≡ first + given) → old ≡ first
@@ -31,15 +31,16 @@ loop-x-preserved c =
     let same = c.add_row.auto.row in
     record {
       size = same_len_mid _ _ t row same ∙ size;
-      cells = λ a b ha hb.
+      cells = λ a b ha hb below.
           ap₂ (λ i j. cell (put_mid i j t row) m a b) start rows ∙ cell_after t row m a b x size (same ∙ long) ha hb hx
           ∙ one_row a x (cell t m a b) (get_or row (b - 1) 0) (cell c.args.table.now m a b)
           (pairwise_weight c.args.lines.now a b)
           (λ e. subst (λ z. get_or row (b - 1) 0 ≡ cell c.args.table.now m z b + pairwise_weight c.args.lines.now z b)
           (sym (eqb-true a x e))
-          (c.add_row.ensures.added b hb
+          (c.add_row.ensures.added b (subst (λ n. IsAlternative n b) (sym long) hb)
+          (let at = eqb-true a x e in omega arith)
           ∙ ap (λ n. n + pairwise_weight c.args.lines.now x b)
           (ap₂ (λ i j. get_or (mid_of i j t) (b - 1) 0) start rows ∙ cell_in_row t m x b size hx hb
-          ∙ c.loop-x.invariant.cells x b hx hb ∙ not_yet x _ _)))
-          (c.loop-x.invariant.cells a b ha hb);
+          ∙ c.loop-x.invariant.cells x b hx hb (let at = eqb-true a x e in omega arith) ∙ not_yet x _ _)))
+          (c.loop-x.invariant.cells a b ha hb below);
     }

@@ -1,4 +1,5 @@
 -- The kinds of modules that a positional counter serves.
+-- (The program's promises don't stand on this file.)
 use Rattle.std.specs.Prelude.{List, []}
 use Rattle.vir_term.specs.declared.leaf.LeafKind.{LeafKind}
 use Rattle.vir_term.specs.declared.score.Score.TheVariants.{Plurality, Borda}

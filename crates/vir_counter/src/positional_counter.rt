@@ -4,16 +4,14 @@ ghost use Rattle.vir_term.specs.declared.score.Score.{Score};
 ghost use Rattle.vir_term.specs.Kinds.{kind_of};
 ghost use Rattle.vir_mean.specs.Eliminators.{eliminator};
 ghost use Rattle.vir_mean.specs.Modules.{leaf_mean};
-ghost use Rattle.vir_counter.specs.Calls.{risen};
 ghost use Rattle.vir_counter.specs.Kinds.{eliminator_kinds, has_kind};
-ghost use Rattle.vir_positional.specs.Kinds.{served_kinds};
+ghost use Rattle.vir_counter.specs.PositionalKinds.{served_kinds};
 
-use crate::scores::positional_split;
-use crate::weighing::Weighing;
-use crate::weight_form::WeightForm;
+use crate::calls::one_more;
+use crate::counter::Counter;
 use std::marker::Model;
-use vir_counter::Counter;
 use vir_mean::Elimination;
+use vir_positional::{Weighing, WeightForm, positional_split};
 use vir_profile::{AltSet, Split};
 use vir_tables::Election;
 use vir_term::{Leaf, Score};
@@ -43,13 +41,6 @@ impl<W: Weighing> PositionalCounter<W> {
     {
         PositionalCounter { rule, calls: 0 }
     }
-}
-
-// A number of calls with one call more, or as it is where it is the greatest.
-fn one_more(calls: u64) -> u64
-    ensures { result ≡ risen calls 1 }
-{
-    calls.saturating_add(1)
 }
 
 // Whether the module is an eliminator of this score.
