@@ -1,13 +1,16 @@
 -- Laws of names and their limits.
 use Rattle.std.proofs.Common.{◌≡◌, ℕ, zero, suc, ◌+◌, ◌-◌, Bool, true, false, ◌||◌, List, [], ◌∷◌, ◌++◌, drop, length}
-use Rattle.std.proofs.Common.{slice_get, Option, Some, None, Ok, is_some, option_map, if◌then◌else◌, refl, sym, ap, ◌∙◌}
+use Rattle.std.proofs.Common.{slice_get, Option, Some, None, Ok, Err, is_some, option_map, if◌then◌else◌, refl, sym}
+use Rattle.std.proofs.Common.{ap, ◌∙◌}
 use Rattle.std.proofs.Common.{arith, subst, add-one}
 use Rattle.std.specs.Str.{bytes_eq}
 use Rattle.vir_term.specs.Tree.{Tree}
 use Rattle.vir_term.specs.Limits.{IsWithinLimits}
+use Rattle.vir_read.specs.declared.text_fault.TextKind.TheVariants.{EmptyBook}
+use Rattle.vir_read.specs.Faults.{◌>>=◌, fault}
 use Rattle.vir_read.specs.BuiltIns.{built_in_named}
 use Rattle.vir_read.specs.Arguments.{AreWithinLimits, is_known}
-use Rattle.vir_book.specs.Books.{Entry, lookup, last_term, AllWithinLimits}
+use Rattle.vir_book.specs.Books.{Entry, lookup, last_term, filled, AllWithinLimits}
 
 some_some : {A : Type 0} (x y : A) → Some x ≡ Some y → x ≡ y
 some_some x y h = cc
@@ -56,3 +59,18 @@ last_term-last (e ∷ []) t is = ap Ok (sym (some_some t e.term is))
 last_term-last (e ∷ next ∷ rest) t is =
     let index : length (e ∷ next ∷ rest) - 1 ≡ suc (length (next ∷ rest) - 1) = omega arith in
     last_term-last (next ∷ rest) t (is ∙ ap (λ i. option_map (λ e. e.term) (slice_get (e ∷ next ∷ rest) i)) index)
+
+-- the rule of these entries is the last one's term
+pub rule_of-last : (list : List Entry) (t : Tree) → Some t ≡ option_map (λ e. e.term)
+    (slice_get list (length list - 1)) → (filled list >>= last_term) ≡ Ok t
+rule_of-last [] t is = cc
+rule_of-last (e ∷ rest) t is = last_term-last (e ∷ rest) t is
+
+-- and where no entry is last there is none
+pub rule_of-none : (list : List Entry) → None ≡ option_map (λ e. e.term) (slice_get list (length list - 1))
+    → (filled list >>= last_term) ≡ Err (fault EmptyBook 0)
+rule_of-none [] is = refl
+rule_of-none (e ∷ []) is = cc
+rule_of-none (e ∷ next ∷ rest) is =
+    let index : length (e ∷ next ∷ rest) - 1 ≡ suc (length (next ∷ rest) - 1) = omega arith in
+    rule_of-none (next ∷ rest) (is ∙ ap (λ i. option_map (λ e. e.term) (slice_get (e ∷ next ∷ rest) i)) index)

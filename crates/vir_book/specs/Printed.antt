@@ -1,4 +1,5 @@
 -- Rule files of printed terms.
+-- (The program's promises don't stand on this file.)
 use Rattle.std.specs.Prelude.{ℕ, ◌≡◌, true, false, List, [], ◌∷◌, ◌++◌, ⊤}
 use Rattle.vir_term.specs.Limits.{IsWithinLimits}
 use Rattle.vir_read.specs.Arguments.{is_known}

@@ -4,17 +4,22 @@ ghost use Rattle.std.specs.Prelude.{slice_get, ℕ};
 ghost use Rattle.vir_term.specs.Tree.{tree};
 ghost use Rattle.vir_term.specs.Limits.{IsWithinLimits};
 ghost use Rattle.vir_read.specs.Faults.{Gives};
+ghost use Rattle.vir_read.specs.SharedTerms as shared;
 ghost use Rattle.vir_read.specs.Arguments.{AreWithinLimits};
 ghost use Rattle.vir_book.specs.Books.{lookup, entry, new_term, with_definition, entries_of, last_term};
-ghost use Rattle.vir_book.specs.Books.{AllWithinLimits, filled, book_of};
-ghost use Rattle.vir_book.specs.Entries.{entries};
+ghost use Rattle.vir_book.specs.Books.{AllWithinLimits, filled, book_of, rule_of};
+ghost use Rattle.vir_book.specs.Entries.{entries, rule_of_entries};
 ghost use Rattle.vir_book.specs.Listing.{listing, written};
 
 use crate::definition::{Definition, read_definition};
 use crate::entries::Entries;
 use crate::filled::Filled;
+use crate::kept_term::KeptTerm;
+use crate::name_hasher::NameHasher;
 use std::alloc::Global;
-use vir_read::{Names, TextError, TextKind, Token, is_known, span, tokens, type_term_at};
+use vir_read::{
+    Names, SharedTerm, TextError, TextKind, Token, is_known, share_term_at, span, tokens,
+};
 use vir_term::Term;
 
 /// How many bytes a rule file may have.
@@ -60,50 +65,58 @@ impl Names for Book {
 
 // The term of a definition, whose name must be new.
 #[tactic(auto, using(crate::proofs::BookLemmas::lookup_unknown))]
-fn term_of_definition(
+fn term_of_definition<T: KeptTerm>(
     alloc: Global,
     text: &[u8],
-    found: &Entries,
+    found: &Entries<T>,
     name: &[u8],
     definition: &Definition,
-) -> Result<Term, TextError>
-    requires { AllWithinLimits (entries found.now) }
-    ensures exact { Gives tree result (new_term text.now (entries found.now) name.now (written definition.now)) }
-    ensures new { IfOk result (λ term. (lookup (entries found.now) name.now ≡ None) × IsWithinLimits (tree term)) }
+) -> Result<SharedTerm, TextError>
+    requires { AllWithinLimits (entries T.meaning found.now) }
+    ensures exact { Gives shared.tree result (new_term text.now (entries T.meaning found.now) name.now (written
+        definition.now)) }
+    ensures new { IfOk result (λ term. (lookup (entries T.meaning found.now) name.now ≡ None)
+        × IsWithinLimits (shared.tree term)) }
 {
-    let at = definition.name.start;
+    let at = definition.name.start as usize;
     if is_known(found, name) {
         return Err(TextError::fault(TextKind::NameTwice, at));
     }
-    type_term_at(alloc, text, &definition.raw, found, at)
+    share_term_at(alloc, text, &definition.raw, found, at)
 }
 
 // The entries with that of a definition behind them.
-fn add_definition(
+fn add_definition<T: KeptTerm>(
     alloc: Global,
     text: &[u8],
-    found: Entries,
+    found: Entries<T>,
     definition: &Definition,
-) -> Result<Entries, TextError>
-    requires { AllWithinLimits (entries found) }
-    ensures exact { Gives (λ after. entries after) result (with_definition text.now (entries found)
+) -> Result<Entries<T>, TextError>
+    requires { AllWithinLimits (entries T.meaning found) }
+    ensures exact { Gives (λ after. entries T.meaning after) result (with_definition text.now (entries T.meaning found)
         (written definition.now)) }
-    ensures within { IfOk result (λ after. AllWithinLimits (entries after)) }
+    ensures within { IfOk result (λ after. AllWithinLimits (entries T.meaning after)) }
 {
     let mut found = found;
     let name = span(text, definition.name.start, definition.name.end);
     let term = term_of_definition(alloc, text, &found, name, definition)?;
     let name = Vec::from_slice(alloc, name)?;
-    found.add(name, term)?;
+    let kept = T::keep(alloc, term)?;
+    found.add(name, kept)?;
     Ok(found)
 }
 
 // The entries of the definitions that these tokens are.
-fn entries_of(alloc: Global, text: &[u8], list: &[Token]) -> Result<Entries, TextError>
-    ensures exact { Gives (λ found. entries found) result (entries_of (length list.now) text.now [] list.now) }
-    ensures within { IfOk result (λ found. AllWithinLimits (entries found)) }
+fn entries_of<T: KeptTerm>(
+    alloc: Global,
+    text: &[u8],
+    list: &[Token],
+) -> Result<Entries<T>, TextError>
+    ensures exact { Gives (λ found. entries T.meaning found) result (entries_of (length list.now) text.now []
+        list.now) }
+    ensures within { IfOk result (λ found. AllWithinLimits (entries T.meaning found)) }
 {
-    let mut found = Entries::new(alloc);
+    let mut found = Entries::new(alloc, NameHasher::of(text));
     let mut at = 0;
     for _ in 0..list.len() {
         if at >= list.len() {
@@ -123,9 +136,9 @@ fn entries_of(alloc: Global, text: &[u8], list: &[Token]) -> Result<Entries, Tex
 }
 
 // The book of these entries.
-fn book_of_entries(found: Entries) -> Result<Book, TextError>
-    requires { AllWithinLimits (entries found) }
-    ensures exact { Gives listing result (filled (entries found)) }
+fn book_of_entries(found: Entries<Term>) -> Result<Book, TextError>
+    requires { AllWithinLimits (entries tree found) }
+    ensures exact { Gives listing result (filled (entries tree found)) }
     ensures within { IfOk result (λ book. AreWithinLimits (lookup (listing book))) }
 {
     if found.is_empty() {
@@ -149,4 +162,33 @@ pub fn read_book(alloc: Global, text: &[u8]) -> Result<Book, TextError>
     let list = tokens(alloc, text)?;
     let found = entries_of(alloc, text, &list)?;
     book_of_entries(found)
+}
+
+// The last term of these entries.
+fn rule_of_entries(alloc: Global, found: &Entries<SharedTerm>) -> Result<Term, TextError>
+    requires { AllWithinLimits (entries shared.tree found.now) }
+    ensures exact { Gives tree result (rule_of_entries (entries shared.tree found.now)) }
+    ensures within { IfOk result (λ term. IsWithinLimits (tree term)) }
+{
+    match found.last() {
+        None => Err(TextError::fault(TextKind::EmptyBook, 0)),
+        Some(term) => match term.to_term(alloc) {
+            Ok(term) => Ok(term),
+            Err(_) => Err(TextError::Memory),
+        },
+    }
+}
+
+/// The term that a rule file defines last, or the fault that `read_book` gives. The terms of names are shared while
+/// the file is read, so that a name costs a few bytes wherever it stands.
+pub fn read_rule(alloc: Global, text: &[u8]) -> Result<Term, TextError>
+    ensures exact { Gives tree result (rule_of text.now) }
+    ensures within { IfOk result (λ term. IsWithinLimits (tree term)) }
+{
+    if text.len() > RULE_FILE_LIMIT {
+        return Err(TextError::fault(TextKind::TextTooLong, RULE_FILE_LIMIT));
+    }
+    let list = tokens(alloc, text)?;
+    let found: Entries<SharedTerm> = entries_of(alloc, text, &list)?;
+    rule_of_entries(alloc, &found)
 }

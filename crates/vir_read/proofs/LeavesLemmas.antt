@@ -10,10 +10,10 @@ use Rattle.vir_read.specs.declared.tree_reader.Separator.{Separator}
 use Rattle.vir_read.specs.declared.tree_reader.Separator.TheVariants as separator
 use Rattle.vir_read.specs.Faults.{◌>>=◌}
 use Rattle.vir_read.specs.Symbols.{symbol, is_same}
-use Rattle.vir_read.specs.RawTrees.{RawTree, RawTrees, number}
+use Rattle.vir_read.specs.RawTrees.{RawTree, RawTrees}
 use Rattle.vir_read.specs.Grammar.{Read, Reads, unexpected, symbol_of, opened, separator_of, goes_on, members}
 use Rattle.vir_read.specs.Grammar.{numeral_of, bracket_then, in_brackets, word_then, behind_word, tree_at, tree_with}
-use Rattle.vir_read.specs.Grammar.{tree_within, tree_of, unclosed_limit}
+use Rattle.vir_read.specs.Grammar.{tree_within}
 
 -- a value leaves at most so many tokens
 abbrev pub Leaves : {A : Type 0} → ℕ → Read A → Type 0

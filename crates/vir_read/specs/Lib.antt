@@ -6,6 +6,7 @@ pub mod Grammar
 pub mod BuiltIns
 pub mod Arguments
 pub mod Typing
+pub mod SharedTerms
 pub mod Built
 pub mod Steps
 pub mod Kinds

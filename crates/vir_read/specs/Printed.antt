@@ -1,4 +1,5 @@
 -- A rule file that defines one printed term.
+-- (The program's promises don't stand on this file.)
 use Rattle.std.specs.Prelude.{ℕ, ◌≡◌, Bool, false, ◌&&◌, List, [], ◌∷◌, ◌++◌, Ok, codes}
 use Rattle.std.specs.List.{list_all}
 use Rattle.vir_term.specs.Tree.{Tree}

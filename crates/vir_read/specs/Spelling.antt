@@ -1,4 +1,5 @@
 -- Which trees of a text spell a term, word for word.
+-- (The program's promises don't stand on this file.)
 use Rattle.std.specs.Prelude.{ℕ, ◌≡◌, List, [], ◌∷◌, ⊤, codes, decimal}
 use Rattle.vir_term.specs.declared.score.Score.{Score}
 use Rattle.vir_term.specs.declared.leaf.Leaf.{Leaf}

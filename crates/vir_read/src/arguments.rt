@@ -9,7 +9,7 @@ ghost use Rattle.vir_read.specs.Arguments.{span, value_after, value_at, ranged, 
 ghost use Rattle.vir_read.specs.Arguments.{order_of, is_known, as_score, score_argument};
 
 use crate::built_in::{built_in_named, score_named};
-use crate::names::Names;
+use crate::names::SharedNames;
 use crate::raw::{Raw, RawList};
 use crate::text_fault::{TextError, TextKind};
 use std::alloc::Global;
@@ -19,12 +19,11 @@ use vir_term::{COUNT_LIMIT, FixedOrder, MEMBER_LIMIT, Score};
 const TOO_GREAT: u32 = COUNT_LIMIT + 1;
 
 /// The bytes of a text from `start` to before `end`, as far as the text has them.
-pub fn span(text: &[u8], start: usize, end: usize) -> &[u8]
+pub fn span(text: &[u8], start: u32, end: u32) -> &[u8]
     ensures { result.now ≡ span text.now start end }
 {
-    let start = start.min(text.len());
-    let rest = &text[start..];
-    let len = end.saturating_sub(start).min(rest.len());
+    let rest = &text[(start as usize).min(text.len())..];
+    let len = (end.saturating_sub(start) as usize).min(rest.len());
     &rest[..len]
 }
 
@@ -40,7 +39,7 @@ fn value(digits: &[u8]) -> u32
 }
 
 // The number of a span of digits, from 1 to the greatest that may stand here.
-fn number(text: &[u8], start: usize, end: usize, most: u32) -> Result<u32, TextError>
+fn number(text: &[u8], start: u32, end: u32, most: u32) -> Result<u32, TextError>
     requires { most ≤ count_limit }
     ensures { Gives (λ n. n) result (ranged most start (value_at text.now start end)) }
 {
@@ -48,7 +47,7 @@ fn number(text: &[u8], start: usize, end: usize, most: u32) -> Result<u32, TextE
     if n >= 1 && n <= most {
         Ok(n)
     } else {
-        Err(TextError::fault(TextKind::BadNumber, start))
+        Err(TextError::fault(TextKind::BadNumber, start as usize))
     }
 }
 
@@ -58,8 +57,8 @@ pub fn count_of(text: &[u8], raw: &Raw) -> Result<u32, TextError>
 {
     match raw {
         Raw::Number { start, end } => number(text, *start, *end, COUNT_LIMIT),
-        Raw::Word { start, .. } => Err(TextError::fault(TextKind::WrongSort, *start)),
-        Raw::List { start, .. } => Err(TextError::fault(TextKind::WrongSort, *start)),
+        Raw::Word { start, .. } => Err(TextError::fault(TextKind::WrongSort, *start as usize)),
+        Raw::List { start, .. } => Err(TextError::fault(TextKind::WrongSort, *start as usize)),
     }
 }
 
@@ -72,12 +71,12 @@ fn member_of(text: &[u8], before: &[u16], raw: &Raw) -> Result<u16, TextError>
         Raw::Number { start, end } => {
             let n = number(text, *start, *end, u32::from(MEMBER_LIMIT))? as u16;
             if before.contains(&n) {
-                return Err(TextError::fault(TextKind::RepeatedInOrder, *start));
+                return Err(TextError::fault(TextKind::RepeatedInOrder, *start as usize));
             }
             Ok(n)
         }
-        Raw::Word { start, .. } => Err(TextError::fault(TextKind::WrongSort, *start)),
-        Raw::List { start, .. } => Err(TextError::fault(TextKind::WrongSort, *start)),
+        Raw::Word { start, .. } => Err(TextError::fault(TextKind::WrongSort, *start as usize)),
+        Raw::List { start, .. } => Err(TextError::fault(TextKind::WrongSort, *start as usize)),
     }
 }
 
@@ -110,20 +109,20 @@ pub fn order_of(alloc: Global, text: &[u8], raw: &Raw) -> Result<FixedOrder, Tex
 {
     match raw {
         Raw::List { members, .. } => order_of_members(alloc, text, members),
-        Raw::Word { start, .. } => Err(TextError::fault(TextKind::WrongSort, *start)),
-        Raw::Number { start, .. } => Err(TextError::fault(TextKind::WrongSort, *start)),
+        Raw::Word { start, .. } => Err(TextError::fault(TextKind::WrongSort, *start as usize)),
+        Raw::Number { start, .. } => Err(TextError::fault(TextKind::WrongSort, *start as usize)),
     }
 }
 
 /// Whether a name is built in or defined.
-pub fn is_known<M: Names>(names: &M, name: &[u8]) -> bool
+pub fn is_known<M: SharedNames>(names: &M, name: &[u8]) -> bool
     ensures { result ≡ is_known (M.meaning names.now) name.now }
 {
-    built_in_named(name).is_some() || names.find(name).is_some()
+    built_in_named(name).is_some() || names.is_defined(name)
 }
 
 // The score that a word at a place stands for.
-fn score_word<M: Names>(
+fn score_word<M: SharedNames>(
     names: &M,
     name: &[u8],
     at: usize,
@@ -141,14 +140,14 @@ fn score_word<M: Names>(
 }
 
 /// The score that a tree stands for, where an eliminator wants one.
-pub fn score_argument<M: Names>(text: &[u8], names: &M, raw: &Raw) -> Result<Score, TextError>
+pub fn score_argument<M: SharedNames>(text: &[u8], names: &M, raw: &Raw) -> Result<Score, TextError>
     ensures { Gives (λ score. score) result (score_argument text.now (M.meaning names.now) (raw_tree raw.now)) }
 {
     match raw {
         Raw::Word { start, end, parts } => {
-            score_word(names, span(text, *start, *end), *start, parts)
+            score_word(names, span(text, *start, *end), *start as usize, parts)
         }
-        Raw::Number { start, .. } => Err(TextError::fault(TextKind::WrongSort, *start)),
-        Raw::List { start, .. } => Err(TextError::fault(TextKind::WrongSort, *start)),
+        Raw::Number { start, .. } => Err(TextError::fault(TextKind::WrongSort, *start as usize)),
+        Raw::List { start, .. } => Err(TextError::fault(TextKind::WrongSort, *start as usize)),
     }
 }

@@ -1,34 +1,39 @@
-// What is kept of a term while a text is judged. A name costs a few bytes wherever it stands, but the term
-// that it stands for may be large, so that a term past the limit is not built.
+// What is kept of a term while a text is judged. A term past the limit is not built.
 ghost use Rattle.std.specs.Prelude.{◌≡◌, ◌∷◌, [], length, MatchOption, Ok};
-ghost use Rattle.vir_term.specs.Tree.{Tree, tree, leaf, rev, loop};
+ghost use Rattle.vir_term.specs.Tree.{Tree, leaf, rev, loop};
 ghost use Rattle.vir_read.specs.RawTrees.{raw_tree, listed};
 ghost use Rattle.vir_read.specs.Typing.{pair_tree, end_of};
+ghost use Rattle.vir_read.specs.SharedTerms.{tree};
 ghost use Rattle.vir_read.specs.Built.{IsKeptOf, Builds};
 
 use crate::built_in::{LoopEnd, Pair};
 use crate::raw::{Raw, RawList};
+use crate::shared_term::SharedTerm;
 use crate::text_fault::TextError;
 use std::alloc::Global;
-use vir_term::{Leaf, SIZE_LIMIT, Term};
+use std::rc::Rc;
+use vir_term::{Leaf, SIZE_LIMIT};
 
 /// What is kept of a term.
 #[derive(Drop)]
 pub enum Built {
     /// The term, and its size, which is within the limit.
-    Small { term: Term, size: u32 },
+    Small { term: SharedTerm, size: u32 },
     /// Only that its size is not.
     Large,
 }
 
 // A module.
-pub fn build_leaf(electoral_module: Leaf) -> Result<Built, TextError>
+pub fn build_leaf(alloc: Global, electoral_module: Leaf) -> Result<Built, TextError>
     ensures { Builds result (Ok (leaf electoral_module)) }
 {
-    Ok(Built::Small {
-        term: Term::Leaf(electoral_module),
-        size: 1,
-    })
+    match Rc::new(alloc, electoral_module) {
+        Ok(electoral_module) => Ok(Built::Small {
+            term: SharedTerm::Leaf(electoral_module),
+            size: 1,
+        }),
+        Err(_) => Err(TextError::Memory),
+    }
 }
 
 // A composition of one term.
@@ -41,9 +46,9 @@ pub fn build_rev(alloc: Global, part: Built) -> Result<Built, TextError>
     if size >= SIZE_LIMIT {
         return Ok(Built::Large);
     }
-    match Box::new(alloc, term) {
+    match Rc::new(alloc, term) {
         Ok(part) => Ok(Built::Small {
-            term: Term::Rev(part),
+            term: SharedTerm::Rev(part),
             size: size + 1,
         }),
         Err(_) => Err(TextError::Memory),
@@ -51,12 +56,12 @@ pub fn build_rev(alloc: Global, part: Built) -> Result<Built, TextError>
 }
 
 // A composition of a number and a term.
-fn loop_term(end: LoopEnd, k: u32, body: Box<Term>) -> Term
+fn loop_term(end: LoopEnd, k: u32, body: Rc<SharedTerm>) -> SharedTerm
     ensures { tree result ≡ loop (end_of end k) (tree body.value) }
 {
     match end {
-        LoopEnd::Exactly => Term::Loop { k, body },
-        LoopEnd::AtMost => Term::Until { k, body },
+        LoopEnd::Exactly => SharedTerm::Loop { k, body },
+        LoopEnd::AtMost => SharedTerm::Until { k, body },
     }
 }
 
@@ -70,7 +75,7 @@ pub fn build_loop(alloc: Global, end: LoopEnd, k: u32, body: Built) -> Result<Bu
     if size >= SIZE_LIMIT {
         return Ok(Built::Large);
     }
-    match Box::new(alloc, term) {
+    match Rc::new(alloc, term) {
         Ok(body) => Ok(Built::Small {
             term: loop_term(end, k, body),
             size: size + 1,
@@ -80,12 +85,12 @@ pub fn build_loop(alloc: Global, end: LoopEnd, k: u32, body: Built) -> Result<Bu
 }
 
 // A composition of two terms.
-fn pair_term(pair: Pair, first: Box<Term>, second: Box<Term>) -> Term
+fn pair_term(pair: Pair, first: Rc<SharedTerm>, second: Rc<SharedTerm>) -> SharedTerm
     ensures { tree result ≡ pair_tree pair (tree first.value) (tree second.value) }
 {
     match pair {
-        Pair::Seq => Term::Seq(first, second),
-        Pair::Par => Term::Par(first, second),
+        Pair::Seq => SharedTerm::Seq(first, second),
+        Pair::Par => SharedTerm::Par(first, second),
     }
 }
 
@@ -116,8 +121,8 @@ pub fn build_pair(
     if n.saturating_add(m) >= SIZE_LIMIT {
         return Ok(Built::Large);
     }
-    match Box::new(alloc, first) {
-        Ok(first) => match Box::new(alloc, second) {
+    match Rc::new(alloc, first) {
+        Ok(first) => match Rc::new(alloc, second) {
             Ok(second) => Ok(Built::Small {
                 term: pair_term(pair, first, second),
                 size: n + m + 1,

@@ -16,6 +16,7 @@ mod laws;
 mod names;
 mod next_token;
 mod raw;
+mod shared_term;
 mod symbol;
 mod text_fault;
 mod token;
@@ -29,12 +30,13 @@ pub use laws::{
     limits_are_these, pieces_are_read, printed_definitions_are_read, printed_terms_are_read,
     printed_terms_are_short, spelled_terms_are_typed, terms_are_pieces,
 };
-pub use names::Names;
+pub use names::{Names, SharedNames};
 pub use next_token::{front, read_symbol, unexpected};
 pub use raw::{Raw, RawList};
+pub use shared_term::SharedTerm;
 pub use symbol::Symbol;
 pub use text_fault::{TextError, TextFault, TextKind};
 pub use token::{Token, TokenKind};
 pub use token_reader::tokens;
 pub use tree_reader::{RawEnd, UNCLOSED_LIMIT, read_raw};
-pub use typing::{type_term, type_term_at};
+pub use typing::{share_term_at, type_term, type_term_at};

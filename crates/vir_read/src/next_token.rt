@@ -22,7 +22,7 @@ pub fn unexpected(text: &[u8], list: &[Token], at: usize) -> TextError
     ensures { result ≡ TextError.Fault (fault Unexpected (front_place text.now (drop at list.now))) }
 {
     let place = match front(list, at) {
-        Some(token) => token.start,
+        Some(token) => token.start as usize,
         None => text.len(),
     };
     TextError::fault(TextKind::Unexpected, place)

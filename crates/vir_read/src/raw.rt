@@ -11,18 +11,18 @@ pub enum Raw {
     /// A word, from `start` to before `end`, and the trees in the parentheses behind it. A word without
     /// parentheses has none.
     Word {
-        start: usize,
-        end: usize,
+        start: u32,
+        end: u32,
         parts: RawList,
     },
     /// A number, from `start` to before `end`.
     Number {
-        start: usize,
-        end: usize,
+        start: u32,
+        end: u32,
     },
     /// A list in brackets, whose opening sign is at `start`. Its members are numbers.
     List {
-        start: usize,
+        start: u32,
         members: RawList,
     },
 }
@@ -51,6 +51,13 @@ impl RawList {
     {
         self.trees.push(raw)?;
         Ok(())
+    }
+
+    // Gives back what memory is left over. Most lists are short, and a long text has many.
+    pub(crate) fn shrink(&mut self)
+        ensures { listed self.new ≡ listed self.old }
+    {
+        self.trees.shrink_to_fit();
     }
 
     /// How many trees there are.

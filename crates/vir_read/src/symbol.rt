@@ -50,7 +50,7 @@ impl Token {
         match self.kind {
             TokenKind::Word => Symbol::Word,
             TokenKind::Number => Symbol::Number,
-            TokenKind::Sign => match text.get(self.start) {
+            TokenKind::Sign => match text.get(self.start as usize) {
                 Some(b) => sign_symbol(*b),
                 None => Symbol::Equals,
             },

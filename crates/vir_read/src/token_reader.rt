@@ -1,8 +1,8 @@
 // The tokens of a text, read from the left.
-ghost use Rattle.std.specs.Prelude.{◌≡◌, ◌<◌, ◌≤◌, ◌++◌, length, option_to_list, OnOk};
+ghost use Rattle.std.specs.Prelude.{◌≡◌, ◌<◌, ◌≤◌, ◌++◌, ◌^◌, length, option_to_list, OnOk, Some};
 ghost use Rattle.vir_read.specs.Faults.{Gives};
 ghost use Rattle.vir_read.specs.Tokens.{is_blank, is_comment_byte, is_comment_sign, is_digit, is_letter, is_sign};
-ghost use Rattle.vir_read.specs.Tokens.{is_word_byte, run, tokens_of};
+ghost use Rattle.vir_read.specs.Tokens.{is_word_byte, run, token, tokens_of};
 ghost use Rattle.vir_read.specs.Steps.{StepsFrom};
 
 use crate::text_fault::{TextError, TextFault, TextKind};
@@ -75,9 +75,27 @@ fn comment_length(bytes: &[u8]) -> usize
     bytes.iter().take_while(|b| **b != b'\n').count()
 }
 
+// A token from a place to before another one, and that one.
+fn token_step(kind: TokenKind, at: usize, end: usize) -> Step
+    requires at { at < 2 ^ 32 }
+    requires end { end < 2 ^ 32 }
+    ensures token { result.token ≡ Some (token kind at end) }
+    ensures next { result.next ≡ end }
+{
+    Step {
+        token: Some(Token {
+            kind,
+            start: at as u32,
+            end: end as u32,
+        }),
+        next: end,
+    }
+}
+
 // What begins at a place of the text.
 fn step_at(text: &[u8], at: usize) -> Result<Step, TextFault>
-    requires { at < length text.now }
+    requires at { at < length text.now }
+    requires short { length text.now < 2 ^ 32 }
     ensures { StepsFrom at text.now result }
 {
     let b = text[at];
@@ -92,26 +110,18 @@ fn step_at(text: &[u8], at: usize) -> Result<Step, TextFault>
             next: next + comment_length(rest),
         });
     }
-    let (kind, end) = if is_letter(b) {
-        (TokenKind::Word, next + word_length(rest))
+    if is_letter(b) {
+        Ok(token_step(TokenKind::Word, at, next + word_length(rest)))
     } else if is_digit(b) {
-        (TokenKind::Number, next + number_length(rest))
+        Ok(token_step(TokenKind::Number, at, next + number_length(rest)))
     } else if is_sign(b) {
-        (TokenKind::Sign, next)
+        Ok(token_step(TokenKind::Sign, at, next))
     } else {
-        return Err(TextFault {
+        Err(TextFault {
             kind: TextKind::BadByte,
             at,
-        });
-    };
-    Ok(Step {
-        token: Some(Token {
-            kind,
-            start: at,
-            end,
-        }),
-        next: end,
-    })
+        })
+    }
 }
 
 fn append(list: &mut Vec<Token>, token: Option<Token>) -> Result<(), AllocError>
@@ -124,10 +134,13 @@ fn append(list: &mut Vec<Token>, token: Option<Token>) -> Result<(), AllocError>
 }
 
 /// The tokens of a text. Blanks and comments, from `#` to the end of the line, only part them. The error is
-/// `BadByte` at the first byte that belongs to no token.
+/// `BadByte` at the first byte that belongs to no token. A text of 2^32 bytes has no room for its tokens.
 pub fn tokens(alloc: Global, text: &[u8]) -> Result<Vec<Token>, TextError>
     ensures { Gives (λ list. list.items) result (tokens_of text.now) }
 {
+    if text.len() > u32::MAX as usize {
+        return Err(TextError::Memory);
+    }
     let mut list = Vec::new(alloc);
     let mut at = 0;
     while at < text.len() {

@@ -75,7 +75,7 @@ fn is_symbol(text: &[u8], list: &[Token], at: usize, wanted: Symbol) -> bool
 fn too_deep(sign: Token) -> TextError
     ensures { result ≡ TextError.Fault (fault TooDeep sign.start) }
 {
-    TextError::fault(TextKind::TooDeep, sign.start)
+    TextError::fault(TextKind::TooDeep, sign.start as usize)
 }
 
 // What stands behind a member of a list that this sign closes, at an index.
@@ -161,6 +161,7 @@ fn read_members(
         match read_separator(text, list, behind, kind.close()) {
             Ok(Separator::Comma) => at = behind + 1,
             Ok(Separator::Close) => {
+                trees.shrink();
                 return Ok(ListEnd {
                     trees,
                     next: behind + 1,

@@ -6,6 +6,7 @@ ghost use Rattle.vir_read.specs.Faults.{Gives};
 ghost use Rattle.vir_read.specs.RawTrees.{raw_tree, listed, gathered};
 ghost use Rattle.vir_read.specs.BuiltIns.{built_in_named, takes};
 ghost use Rattle.vir_read.specs.Arguments.{AreWithinLimits, Names};
+ghost use Rattle.vir_read.specs.SharedTerms as shared;
 ghost use Rattle.vir_read.specs.Typing as typing;
 ghost use Rattle.vir_read.specs.Typing.{composition_of, arguments_of, built_in_term, defined_term};
 ghost use Rattle.vir_read.specs.Typing.{word_term, term_at, term_of, first_place};
@@ -14,8 +15,9 @@ ghost use Rattle.vir_read.specs.Built.{Builds};
 use crate::arguments::{count_of, order_of, score_argument, span};
 use crate::built::{Built, build_leaf, build_loop, build_pair, build_rev, one, two};
 use crate::built_in::{BuiltIn, Eliminator, LoopEnd, Ordered, Pair, Plain, built_in_named};
-use crate::names::Names;
+use crate::names::{Names, SharedNames};
 use crate::raw::{Raw, RawList};
+use crate::shared_term::SharedTerm;
 use crate::text_fault::{TextError, TextKind};
 use std::alloc::Global;
 use vir_term::{FixedOrder, Leaf, NESTING_LIMIT, Score, Term};
@@ -73,18 +75,19 @@ fn build_ordered(
 {
     if let Some(k) = one(parts) {
         let k = count_of(text, k)?;
-        return build_leaf(ordered_leaf(ordered, k, no_order(alloc)));
+        return build_leaf(alloc, ordered_leaf(ordered, k, no_order(alloc)));
     }
     let Some((k, order)) = two(parts) else {
         unreachable!()
     };
     let k = count_of(text, k)?;
     let order = order_of(alloc, text, order)?;
-    build_leaf(ordered_leaf(ordered, k, order))
+    build_leaf(alloc, ordered_leaf(ordered, k, order))
 }
 
 // A module with a score.
-fn build_eliminator<M: Names>(
+fn build_eliminator<M: SharedNames>(
+    alloc: Global,
     text: &[u8],
     eliminator: Eliminator,
     parts: &RawList,
@@ -98,11 +101,11 @@ fn build_eliminator<M: Names>(
         unreachable!()
     };
     let score = score_argument(text, names, score)?;
-    build_leaf(eliminator_leaf(eliminator, score))
+    build_leaf(alloc, eliminator_leaf(eliminator, score))
 }
 
-// The term of a defined name.
-fn copy_defined<M: Names>(
+// The term of a defined name, which is shared.
+fn share_defined<M: SharedNames>(
     alloc: Global,
     name: &[u8],
     count: usize,
@@ -114,9 +117,10 @@ fn copy_defined<M: Names>(
     requires names { AreWithinLimits (M.meaning names.now) }
     ensures { Builds result (defined_term at level count (M.meaning names.now name.now)) }
 {
-    match names.find(name) {
-        None => Err(TextError::fault(TextKind::UnknownName, at)),
-        Some(term) => {
+    match names.share(alloc, name) {
+        Err(_) => Err(TextError::Memory),
+        Ok(None) => Err(TextError::fault(TextKind::UnknownName, at)),
+        Ok(Some(term)) => {
             if count != 0 {
                 return Err(TextError::fault(TextKind::WrongCountOfArguments, at));
             }
@@ -124,16 +128,13 @@ fn copy_defined<M: Names>(
                 return Err(TextError::fault(TextKind::TooDeep, at));
             }
             let size = term.size();
-            match term.copy(alloc) {
-                Ok(term) => Ok(Built::Small { term, size }),
-                Err(_) => Err(TextError::Memory),
-            }
+            Ok(Built::Small { term, size })
         }
     }
 }
 
 #[cycle(typing)]
-fn build_rev_of<M: Names>(
+fn build_rev_of<M: SharedNames>(
     alloc: Global,
     text: &[u8],
     parts: &RawList,
@@ -154,7 +155,7 @@ fn build_rev_of<M: Names>(
 }
 
 #[cycle(typing)]
-fn build_loop_of<M: Names>(
+fn build_loop_of<M: SharedNames>(
     alloc: Global,
     text: &[u8],
     end: LoopEnd,
@@ -177,7 +178,7 @@ fn build_loop_of<M: Names>(
 }
 
 #[cycle(typing)]
-fn build_pair_of<M: Names>(
+fn build_pair_of<M: SharedNames>(
     alloc: Global,
     text: &[u8],
     pair: Pair,
@@ -201,7 +202,7 @@ fn build_pair_of<M: Names>(
 
 // A built-in word with as many arguments as it takes, which is not too deep.
 #[cycle(typing)]
-fn build_composition<M: Names>(
+fn build_composition<M: SharedNames>(
     alloc: Global,
     text: &[u8],
     word: BuiltIn,
@@ -216,9 +217,9 @@ fn build_composition<M: Names>(
         (arguments_of text.now (M.meaning names.now) (gathered (listed parts.now)))) }
 {
     match word {
-        BuiltIn::Plain(plain) => build_leaf(plain_leaf(plain)),
+        BuiltIn::Plain(plain) => build_leaf(alloc, plain_leaf(plain)),
         BuiltIn::Ordered(ordered) => build_ordered(alloc, text, ordered, parts),
-        BuiltIn::Eliminator(eliminator) => build_eliminator(text, eliminator, parts, names),
+        BuiltIn::Eliminator(eliminator) => build_eliminator(alloc, text, eliminator, parts, names),
         BuiltIn::Rev => build_rev_of(alloc, text, parts, names, level),
         BuiltIn::Pair(pair) => build_pair_of(alloc, text, pair, parts, names, level),
         BuiltIn::Loop(end) => build_loop_of(alloc, text, end, parts, names, level),
@@ -228,7 +229,7 @@ fn build_composition<M: Names>(
 
 #[cycle(typing)]
 #[tactic(auto, using(crate::proofs::TypingLemmas::length_arguments_of))]
-fn build_built_in<M: Names>(
+fn build_built_in<M: SharedNames>(
     alloc: Global,
     text: &[u8],
     word: BuiltIn,
@@ -256,7 +257,7 @@ fn build_built_in<M: Names>(
 
 #[cycle(typing)]
 #[tactic(auto, using(crate::proofs::TypingLemmas::length_arguments_of))]
-fn build_word<M: Names>(
+fn build_word<M: SharedNames>(
     alloc: Global,
     text: &[u8],
     name: &[u8],
@@ -272,13 +273,13 @@ fn build_word<M: Names>(
 {
     match built_in_named(name) {
         Some(word) => build_built_in(alloc, text, word, parts, names, level, at),
-        None => copy_defined(alloc, name, parts.len(), names, level, at),
+        None => share_defined(alloc, name, parts.len(), names, level, at),
     }
 }
 
 // What is kept of the term of a tree, where a term is wanted at a level of nesting.
 #[cycle(typing)]
-fn build_term<M: Names>(
+fn build_term<M: SharedNames>(
     alloc: Global,
     text: &[u8],
     raw: &Raw,
@@ -290,8 +291,8 @@ fn build_term<M: Names>(
     ensures { Builds result (term_at text.now (M.meaning names.now) (raw_tree raw.now) level) }
 {
     match raw {
-        Raw::Number { start, .. } => Err(TextError::fault(TextKind::WrongSort, *start)),
-        Raw::List { start, .. } => Err(TextError::fault(TextKind::WrongSort, *start)),
+        Raw::Number { start, .. } => Err(TextError::fault(TextKind::WrongSort, *start as usize)),
+        Raw::List { start, .. } => Err(TextError::fault(TextKind::WrongSort, *start as usize)),
         Raw::Word { start, end, parts } => build_word(
             alloc,
             text,
@@ -299,27 +300,42 @@ fn build_term<M: Names>(
             parts,
             names,
             level,
-            *start,
+            *start as usize,
         ),
     }
 }
 
 // The term of a tree, without a word on its limits.
-fn term_in_size<M: Names>(
+fn term_in_size<M: SharedNames>(
     alloc: Global,
     text: &[u8],
     raw: &Raw,
     names: &M,
     at: usize,
-) -> Result<Term, TextError>
+) -> Result<SharedTerm, TextError>
     requires { AreWithinLimits (M.meaning names.now) }
-    ensures { Gives tree result (term_of text.now (M.meaning names.now) at (raw_tree raw.now)) }
+    ensures { Gives shared.tree result (term_of text.now (M.meaning names.now) at (raw_tree raw.now)) }
 {
     match build_term(alloc, text, raw, names, 1) {
         Ok(Built::Small { term, .. }) => Ok(term),
         Ok(Built::Large) => Err(TextError::fault(TextKind::TooLarge, at)),
         Err(e) => Err(e),
     }
+}
+
+/// The same as `type_term_at`, of which parts may be shared with the terms of names.
+pub fn share_term_at<M: SharedNames>(
+    alloc: Global,
+    text: &[u8],
+    raw: &Raw,
+    names: &M,
+    at: usize,
+) -> Result<SharedTerm, TextError>
+    requires { AreWithinLimits (M.meaning names.now) }
+    ensures meant { Gives shared.tree result (term_of text.now (M.meaning names.now) at (raw_tree raw.now)) }
+    ensures within { IfOk result (λ term. IsWithinLimits (shared.tree term)) }
+{
+    term_in_size(alloc, text, raw, names, at)
 }
 
 /// The term that a tree stands for, or its first fault in preorder; last that the term is too large, which
@@ -335,16 +351,22 @@ pub fn type_term_at<M: Names>(
     ensures meant { Gives tree result (term_of text.now (M.meaning names.now) at (raw_tree raw.now)) }
     ensures within { IfOk result (λ term. IsWithinLimits (tree term)) }
 {
-    term_in_size(alloc, text, raw, names, at)
+    match share_term_at(alloc, text, raw, &names, at) {
+        Ok(term) => match term.to_term(alloc) {
+            Ok(term) => Ok(term),
+            Err(_) => Err(TextError::Memory),
+        },
+        Err(e) => Err(e),
+    }
 }
 
 fn first_place(raw: &Raw) -> usize
     ensures { result ≡ first_place (raw_tree raw.now) }
 {
     match raw {
-        Raw::Word { start, .. } => *start,
-        Raw::Number { start, .. } => *start,
-        Raw::List { start, .. } => *start,
+        Raw::Word { start, .. } => *start as usize,
+        Raw::Number { start, .. } => *start as usize,
+        Raw::List { start, .. } => *start as usize,
     }
 }
 

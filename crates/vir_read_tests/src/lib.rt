@@ -8,6 +8,8 @@
 #[cfg(test)]
 mod laws;
 #[cfg(test)]
+mod names;
+#[cfg(test)]
 mod terms;
 #[cfg(test)]
 mod trees;

@@ -27,7 +27,7 @@ fn a_token_is_as_long_as_it_can_be(rt: HostRuntime) -> Result<(), TextError> {
     assert!(rt; list.len() == COMMENTED_TOKENS.len());
     for (token, (kind, start, end)) in list.iter().zip(COMMENTED_TOKENS) {
         assert!(rt;
-            token.kind == *kind && token.start == *start && token.end == *end,
+            token.kind == *kind && token.start as usize == *start && token.end as usize == *end,
             "at {start}"
         );
     }

@@ -1,4 +1,5 @@
 -- What a call does that appends to a text.
+-- (The program's promises don't stand on this file.)
 use Rattle.std.specs.Prelude.{◌≡◌, ℕ, List, ◌++◌, Result, MatchResult}
 
 -- A text begins with another one: something was appended to it, or nothing.

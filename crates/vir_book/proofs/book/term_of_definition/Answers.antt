@@ -2,5 +2,5 @@ use Rattle.vir_book.specs.Entries.{entries}
 use Rattle.vir_book.proofs.BookLemmas.{lookup_within}
 use Rattle.vir_book.proofs.book.term_of_definition.Goals as goal
 
-pub type_term_at-requires : goal.type_term_at-requires
-type_term_at-requires c = lookup_within (entries c.args.found.now) c.requires
+pub share_term_at-requires : goal.share_term_at-requires
+share_term_at-requires g c = lookup_within (entries g.T.KeptTerm.meaning c.args.found.now) c.requires

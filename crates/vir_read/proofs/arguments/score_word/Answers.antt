@@ -10,7 +10,7 @@ some b n e h = grind (arith, nat_tests)
 
 pub returns-in-Some-2 : goal.returns-in-Some-2
 returns-in-Some-2 g c = fails_fault _ _ _ c.fault.ensures
-    (ap (as_score c.args.at (gathered (listed c.args.parts.now)) (is_known (g.M.Names.meaning c.args.names.now)
+    (ap (as_score c.args.at (gathered (listed c.args.parts.now)) (is_known (g.M.SharedNames.meaning c.args.names.now)
     c.args.name.now)) (sym c.in-Some-2.ensures)
     ∙ no_parts c.args.at (listed c.args.parts.now) _ c.in-Some-2.field-0
     (some _ _ c.is_empty.ensures c.if-is_empty.false))

@@ -41,7 +41,7 @@ read_members-returns-in-Ok-Close-clause-members t c =
     (raw_tree c.in-Ok.member.raw) rest c.in-Ok.ensures.tree left
     (sym (ap (λ s. separator_of c.args.text.now s rest) c.close.ensures)
     ∙ (rw c.in-Ok-Close.field-0-is at c.in-Ok-Close.ensures.exact))
-    ∙ ap (λ trees. Ok (gathered trees, left)) (sym c.in_ok-push.ensures.pushed)
+    ∙ ap (λ trees. Ok (gathered trees, left)) (sym (c.shrink.ensures ∙ c.in_ok-push.ensures.pushed))
 
 pub read_members-loop-preserved : goal.read_members-loop-preserved
 read_members-loop-preserved t c =

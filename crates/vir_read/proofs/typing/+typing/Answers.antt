@@ -6,7 +6,7 @@ use Rattle.vir_read.proofs.typing.+typing.Goals as goal
 
 pub build_composition-returns-in-Ordered : goal.build_composition-returns-in-Ordered
 build_composition-returns-in-Ordered g t c = λ at.
-    let names = g.M.Names.meaning c.args.names.now in
+    let names = g.M.SharedNames.meaning c.args.names.now in
     let arguments = arguments_of c.args.text.now names (gathered (listed c.args.parts.now)) in
     subst (λ w. Builds c.build_ordered.result (composition_of c.args.text.now names at c.args.level w arguments))
     (sym c.in-Ordered.is)
@@ -14,7 +14,7 @@ build_composition-returns-in-Ordered g t c = λ at.
 
 pub build_composition-returns-in-Eliminator : goal.build_composition-returns-in-Eliminator
 build_composition-returns-in-Eliminator g t c = λ at.
-    let names = g.M.Names.meaning c.args.names.now in
+    let names = g.M.SharedNames.meaning c.args.names.now in
     let arguments = arguments_of c.args.text.now names (gathered (listed c.args.parts.now)) in
     subst (λ w. Builds c.build_eliminator.result (composition_of c.args.text.now names at c.args.level w arguments))
     (sym c.in-Eliminator.is)

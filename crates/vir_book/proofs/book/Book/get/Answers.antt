@@ -19,4 +19,4 @@ found_within list name (Some term) kept h = lookup-within-kept list name (tree t
 pub returns-clause-within : goal.returns-clause-within
 returns-clause-within c =
     let found = c.args.self.now.filled in
-    found_within (entries found.found) c.args.name.now c.get.result found.within c.get.ensures
+    found_within (entries tree found.found) c.args.name.now c.get.result found.within c.get.ensures

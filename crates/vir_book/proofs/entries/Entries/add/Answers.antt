@@ -9,7 +9,9 @@ use Rattle.indexmap.proofs.CallerLemmas.{insert_entry-new}
 use Rattle.vir_book.proofs.entries.Entries.add.Goals as goal
 
 pub returns-in-Ok : goal.returns-in-Ok
-returns-in-Ok c = let none = absent _ (lookup-entries c.args.name.items c.args.self.now.map.entries ∙ c.requires) in
-    ap (map as_entry) (c.in-Ok.ensures.entries ∙ insert_entry-new (λ (a b : Vec ℕ Global). pointwise nat_eq a.items
-    b.items) c.args.self.now.map c.args.name c.args.term none)
-    ∙ map-append as_entry c.args.self.now.map.entries ((c.args.name, c.args.term) ∷ [])
+returns-in-Ok g c =
+    let meaning = g.T.KeptTerm.meaning in
+    let none = absent meaning _ (lookup-entries meaning c.args.name.items c.args.self.now.map.entries ∙ c.requires) in
+    ap (map (as_entry meaning)) (c.in-Ok.ensures.entries ∙ insert_entry-new (λ (a b : Vec ℕ Global). pointwise nat_eq
+    a.items b.items) c.args.self.now.map c.args.name c.args.term none)
+    ∙ map-append (as_entry meaning) c.args.self.now.map.entries ((c.args.name, c.args.term) ∷ [])
