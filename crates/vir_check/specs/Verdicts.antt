@@ -1,4 +1,5 @@
 -- What a verdict on a derivation says.
+-- (The program's promises don't stand on this file.)
 use Rattle.std.specs.Prelude.{◌≡◌, ℕ, ◌-◌, ◌^◌, min, Some}
 use Rattle.vir_rules.specs.Claims.{Claim}
 use Rattle.vir_rules.specs.RuleTrees.{RuleTree}

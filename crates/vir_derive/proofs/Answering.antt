@@ -1,6 +1,10 @@
 -- First derivations and reasons, put together rule by rule and premise by premise.
-use Rattle.std.proofs.Common.{◌≡◌, ◌↔◌, IfOk, ℕ, zero, suc, ◌+◌, true, List, [], ◌∷◌, ◌++◌, take, Option, Some, None}
-use Rattle.std.proofs.Common.{MatchOption, slice_get, refl, sym, ◌∙◌, ap, subst, add-one}
+use Rattle.std.proofs.Common.{◌≡◌, ◌↔◌, IfOk, ℕ, zero, suc, ◌+◌, Bool, true, cond, List, [], ◌∷◌, ◌++◌, map}
+use Rattle.std.proofs.Common.{filter, take}
+use Rattle.std.proofs.Common.{Option, Some, None, MatchOption, slice_get, refl, sym, ◌∙◌, ap, subst, add-one, arith}
+use Rattle.std.specs.List.{range_with_len}
+use Rattle.std.proofs.lemmas.List.{map-id, append-nil}
+use Rattle.std.proofs.lemmas.List.FromFn.{filter_of_map_range_with_len_more}
 use Rattle.std.specs.Option.{is_some}
 use Rattle.std.specs.declared.result.Result.{Result}
 use Rattle.std.specs.declared.result.Result.TheVariants.{Ok, Err}
@@ -12,8 +16,8 @@ use Rattle.vir_rules.specs.declared.why.Why.{Why}
 use Rattle.vir_rules.specs.declared.why.WhyLine.{WhyLine}
 use Rattle.vir_rules.specs.Claims.{Claim}
 use Rattle.vir_rules.specs.Derivations.{Derivable, AllDerivable, Fails, IsFirst, AreFirst}
-use Rattle.vir_rules.specs.Premises.{premises}
-use Rattle.vir_rules.specs.Reasons.{Reason, IsReasonOf, AreReasonsUpTo, AreReasons, reason_seen}
+use Rattle.vir_rules.specs.Premises.{premises, fits}
+use Rattle.vir_rules.specs.Reasons.{Reason, IsReasonOf, IsReasonBy, AreReasonsBy, AreReasons, fitting, reason_seen}
 use Rattle.vir_rules.specs.RuleTrees.{RuleTree, gathered, rule_tree}
 use Rattle.vir_rules.specs.declared.rule_id.TheConstants.RuleId.{COUNT}
 use Rattle.vir_derive.specs.Answers.{Answers}
@@ -57,66 +61,74 @@ child_more trees others needed i tree premise e h f g =
     (first_more trees (take i needed) tree premise f g))
 
 -- the reasons of no rules
-pub reasons_of_none : (c : Claim) (reasons : List Reason) → reasons ≡ [] → AreReasonsUpTo 0 c reasons
-unfolding AreReasonsUpTo
-reasons_of_none c reasons e = e
+pub reasons_of_none : (c : Claim) (reasons : List Reason) → reasons ≡ [] → AreReasonsBy c (fitting 0 c) reasons
+unfolding fitting
+reasons_of_none c reasons e = subst (AreReasonsBy c []) (sym e) tt
 
--- What stands of the reasons of one rule more, by its premises.
-abbrev MoreReasons : ℕ → Claim → List Reason → Option (List Claim) → Type 0
-MoreReasons i c reasons o = MatchOption o (AreReasonsUpTo i c reasons)
-    (λ needed. (earlier : List Reason) × (last : Reason) × (reasons ≡ earlier ++ last ∷ []) × AreReasonsUpTo i c earlier
-    × IsReasonOf (suc i) needed last)
+one_more : (c : Claim) (rules : List ℕ) (reasons : List Reason) (rule : ℕ) (reason : Reason)
+    → AreReasonsBy c rules reasons → IsReasonBy c rule reason
+    → AreReasonsBy c (rules ++ rule ∷ []) (reasons ++ reason ∷ [])
+one_more c [] [] rule reason are is = (is, tt)
+one_more c [] (_ ∷ _) rule reason are is = absurd are
+one_more c (_ ∷ _) [] rule reason are is = absurd are
+one_more c (first ∷ rules) (given ∷ reasons) rule reason are is = (are.0, one_more c rules reasons rule reason are.1 is)
 
-more_reasons : (i rule : ℕ) (c : Claim) (reasons : List Reason) (o : Option (List Claim)) → rule ≡ i + 1
-    → premises rule c ≡ o → MoreReasons i c reasons o → AreReasonsUpTo (i + 1) c reasons
-unfolding AreReasonsUpTo
-more_reasons i rule c reasons o h e m =
-    let k : rule ≡ suc i = h ∙ add-one i in
-    rw (add-one i) (subst (MoreReasons i c reasons) (sym (ap (λ n. premises n c) (sym k) ∙ e)) m)
+-- the next rule stands behind those that fit so far, where it fits
+fitting_more : (i : ℕ) (c : Claim) → fitting (i + 1) c ≡ fitting i c ++ cond (fits (i + 1) c) ((i + 1) ∷ []) []
+unfolding fitting
+fitting_more i c =
+    let test : ℕ → Bool = λ rule. fits rule c in
+    sym (ap (filter test) (map-id (range_with_len 1 (i + 1))))
+    ∙ filter_of_map_range_with_len_more test (λ x. x) 1 i (i + 1) (omega arith)
+    ∙ ap (λ xs. filter test xs ++ cond (test (i + 1)) ((i + 1) ∷ []) []) (map-id (range_with_len 1 i))
 
-unserved : (i rule : ℕ) (c : Claim) (reasons : List Reason) (o : Option (List Claim)) → premises rule c ≡ o
-    → (Derivable c → ⊥) → ((needed : List Claim) → o ≡ Some needed → AllDerivable needed) → AreReasonsUpTo i c reasons
-    → MoreReasons i c reasons o
-unserved i rule c reasons None e n all r = r
-unserved i rule c reasons (Some needed) e n all r = absurd (n (derivable_by rule c needed e (all needed refl)))
+more_reasons : (i : ℕ) (c : Claim) (reasons : List Reason) (o : Option (List Claim)) → premises (i + 1) c ≡ o
+    → AreReasonsBy c (fitting i c ++ cond (is_some o) ((i + 1) ∷ []) []) reasons
+    → AreReasonsBy c (fitting (i + 1) c) reasons
+more_reasons i c reasons o e are =
+    let rules = fitting_more i c ∙ ap (λ p. fitting i c ++ cond (is_some p) ((i + 1) ∷ []) []) e in
+    subst (λ rs. AreReasonsBy c rs reasons) (sym rules) are
 
 -- a rule without a reason doesn't fit, and adds none
 pub reasons_without : (i rule : ℕ) (c : Claim) (reasons : List Reason) (found : Option WhyLine) → rule ≡ i + 1
     → (Derivable c → ⊥) → found ≡ None → ((needed : List Claim) → premises rule c ≡ Some needed
     → IsReasonFor rule needed found) →
-    AreReasonsUpTo i c reasons → AreReasonsUpTo (i + 1) c reasons
-reasons_without i rule c reasons found h n e f r =
-    more_reasons i rule c reasons (premises rule c) h refl
-    (unserved i rule c reasons (premises rule c) refl n (λ needed p. subst (λ o. IsReasonFor rule needed o) e
-    (f needed p)) r)
-
-served_last : (i rule : ℕ) (c : Claim) (reasons : List Reason) (line : WhyLine) (o : Option (List Claim)) → rule ≡ suc i
-    → (o ≡ None → ⊥) → ((needed : List Claim) → o ≡ Some needed → IsReasonOf rule needed (reason_seen line))
-    → AreReasonsUpTo i c reasons →
-    MoreReasons i c (reasons ++ reason_seen line ∷ []) o
-served_last i rule c reasons line None h u f r = absurd (u refl)
-served_last i rule c reasons line (Some needed) h u f r =
-    (reasons, reason_seen line, refl, r, subst (λ n. IsReasonOf n needed (reason_seen line)) h (f needed refl))
+    AreReasonsBy c (fitting i c) reasons → AreReasonsBy c (fitting (i + 1) c) reasons
+reasons_without i rule c reasons found h n e f r = by (premises (i + 1) c) refl
+  where
+    by : (o : Option (List Claim)) → premises (i + 1) c ≡ o → AreReasonsBy c (fitting (i + 1) c) reasons
+    by None p = more_reasons i c reasons None p (subst (λ rs. AreReasonsBy c rs reasons)
+        (sym (append-nil (fitting i c)))
+        r)
+    by (Some needed) p =
+        let q : premises rule c ≡ Some needed = ap (λ k. premises k c) h ∙ p in
+        absurd (n (derivable_by rule c needed q (subst (IsReasonFor rule needed) e (f needed q))))
 
 -- a rule with a reason fits, and adds it
 pub reasons_with : (i rule : ℕ) (c : Claim) (reasons others : List Reason) (found : Option WhyLine) (line : WhyLine)
     → rule ≡ i + 1 → found ≡ Some line → others ≡ reasons ++ reason_seen line ∷ []
     → (premises rule c ≡ None → found ≡ None) →
-    ((needed : List Claim) → premises rule c ≡ Some needed → IsReasonFor rule needed found) → AreReasonsUpTo i c reasons
-    → AreReasonsUpTo (i + 1) c others
-reasons_with i rule c reasons others found line h e m u f r =
-    let fits : (premises rule c ≡ None → ⊥) = λ p. some_none (sym e ∙ u p) in
-    more_reasons i rule c others (premises rule c) h refl
-    (subst (λ xs. MoreReasons i c xs (premises rule c)) (sym m)
-    (served_last i rule c reasons line (premises rule c) (h ∙ add-one i) fits
-    (λ needed p. subst (λ o. IsReasonFor rule needed o) e (f needed p)) r)) where
-      some_none : Some line ≡ None → ⊥
-      some_none h = cc
+    ((needed : List Claim) → premises rule c ≡ Some needed → IsReasonFor rule needed found)
+    → AreReasonsBy c (fitting i c) reasons → AreReasonsBy c (fitting (i + 1) c) others
+reasons_with i rule c reasons others found line h e m u f r = by (premises (i + 1) c) refl
+  where
+    some_none : Some line ≡ None → ⊥
+    some_none same = cc
+
+    by : (o : Option (List Claim)) → premises (i + 1) c ≡ o → AreReasonsBy c (fitting (i + 1) c) others
+    by None p = absurd (some_none (sym e ∙ u (ap (λ k. premises k c) h ∙ p)))
+    by (Some needed) p =
+        let q : premises rule c ≡ Some needed = ap (λ k. premises k c) h ∙ p in
+        let first : IsReasonOf (i + 1) needed (reason_seen line)
+        = subst (λ k. IsReasonOf k needed (reason_seen line)) h (subst (IsReasonFor rule needed) e (f needed q)) in
+        subst (AreReasonsBy c (fitting (i + 1) c)) (sym m) (more_reasons i c (reasons ++ reason_seen line ∷ [])
+        (Some needed) p (one_more c (fitting i c) reasons (i + 1) (reason_seen line) r
+        (record { needed = needed; fits = p; first = first })))
 
 -- the reasons of all rules
-pub all_reasons : (i : ℕ) (c : Claim) (reasons : List Reason) → i ≡ COUNT → AreReasonsUpTo i c reasons
+pub all_reasons : (i : ℕ) (c : Claim) (reasons : List Reason) → i ≡ COUNT → AreReasonsBy c (fitting i c) reasons
     → AreReasons c reasons
-all_reasons i c reasons e r = subst (λ n. AreReasonsUpTo n c reasons) (e ∙ sym table_size) r
+all_reasons i c reasons e r = subst (λ n. AreReasonsBy c (fitting n c) reasons) (e ∙ sym table_size) r
 
 decided_by_answer : (answer : Either Derivation Why) (c : Claim) → Answers answer c → (is_left answer ≡ true)
     ↔ Derivable c

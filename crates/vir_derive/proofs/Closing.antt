@@ -11,7 +11,7 @@ use Rattle.vir_rules.specs.declared.row.Conclusion.{Conclusion}
 use Rattle.vir_rules.specs.declared.row.Conclusion.TheVariants.{Has, Apart}
 use Rattle.vir_rules.specs.declared.row.Need.{Need}
 use Rattle.vir_rules.specs.declared.row.Need.TheVariants.{Of, Disj}
-use Rattle.vir_rules.specs.declared.row.Part.TheVariants.{M, N, T}
+use Rattle.vir_rules.specs.declared.row.Part.TheVariants.{M, N, T, U}
 use Rattle.vir_rules.specs.declared.row.Shape.{Shape}
 use Rattle.vir_rules.specs.declared.row.Wanted.{Wanted}
 use Rattle.vir_rules.specs.declared.row.Wanted.TheVariants.{Is, DefersK, RejectsK}
@@ -133,6 +133,7 @@ module _ (numbers : ℕ → Bool) (one : numbers 1 ≡ true) (two : numbers 2 �
   need_carried q r k l before wanted w e s (Of other T) f b d =
       let i = rank_for other k in let j = b.before in
       before (prop_for other k) (omega arith) (asked_within numbers one two wanted other q k w e f) d
+  need_carried q r k l before wanted w e s (Of other U) f b d = absurd b.told
   need_carried q r k l before wanted w e s (Disj M N) f b d =
       disjoint_if_opposed (first_part u) (second_part u) (sym (same.opposed_same b.told)
       ∙ opposed_if_disjoint (first_part t) (second_part t) d)

@@ -12,7 +12,7 @@ use Rattle.vir_rules.specs.declared.row.Need.{Need}
 use Rattle.vir_rules.specs.declared.row.Need.TheVariants.{Disj}
 use Rattle.vir_rules.specs.declared.row.Pairing.{Pairing}
 use Rattle.vir_rules.specs.declared.row.Pairing.TheVariants.{PassDrop, DropPass, SeqLeft, SeqRight, RevLeft, RevRight}
-use Rattle.vir_rules.specs.declared.row.Part.TheVariants.{M, T}
+use Rattle.vir_rules.specs.declared.row.Part.TheVariants.{M, U}
 use Rattle.vir_rules.specs.Claims.{Claim, of, disj}
 use Rattle.vir_rules.specs.Premises.{Letters, letters_of_pair, letters_in, paired, filled, row_of, premises}
 use Rattle.vir_rules.specs.Premises.{premises_by}
@@ -89,10 +89,10 @@ disjoint_if_opposed (loop k body) right h = no_true h
 asks_so : Pairing → List Need → Bool
 asks_so PassDrop [] = true
 asks_so DropPass [] = true
-asks_so SeqLeft (Disj M T ∷ []) = true
-asks_so RevLeft (Disj M T ∷ []) = true
-asks_so SeqRight (Disj T M ∷ []) = true
-asks_so RevRight (Disj T M ∷ []) = true
+asks_so SeqLeft (Disj M U ∷ []) = true
+asks_so RevLeft (Disj M U ∷ []) = true
+asks_so SeqRight (Disj U M ∷ []) = true
+asks_so RevRight (Disj U M ∷ []) = true
 asks_so _ _ = false
 
 asks_of_terms : Conclusion → List Need → Bool
@@ -138,22 +138,22 @@ drop_pass_asks (leaf (DropFirst k order)) (leaf (PassFirst j other)) = modules_a
     && pointwise nat_eq order other) refl
 drop_pass_asks _ _ = tt
 
-seq_left_asks : (left right : Tree) → AskIfFit left right (option_map (λ letters. map (filled letters) (Disj M T ∷ []))
+seq_left_asks : (left right : Tree) → AskIfFit left right (option_map (λ letters. map (filled letters) (Disj M U ∷ []))
     (paired SeqLeft left right))
 seq_left_asks (seq first second) right = (refl, omega arith)
 seq_left_asks _ right = tt
 
-rev_left_asks : (left right : Tree) → AskIfFit left right (option_map (λ letters. map (filled letters) (Disj M T ∷ []))
+rev_left_asks : (left right : Tree) → AskIfFit left right (option_map (λ letters. map (filled letters) (Disj M U ∷ []))
     (paired RevLeft left right))
 rev_left_asks (rev part) right = (refl, omega arith)
 rev_left_asks _ right = tt
 
-seq_right_asks : (left right : Tree) → AskIfFit left right (option_map (λ letters. map (filled letters) (Disj T M ∷ []))
+seq_right_asks : (left right : Tree) → AskIfFit left right (option_map (λ letters. map (filled letters) (Disj U M ∷ []))
     (paired SeqRight left right))
 seq_right_asks left (seq first second) = (refl, omega arith)
 seq_right_asks left _ = tt
 
-rev_right_asks : (left right : Tree) → AskIfFit left right (option_map (λ letters. map (filled letters) (Disj T M ∷ []))
+rev_right_asks : (left right : Tree) → AskIfFit left right (option_map (λ letters. map (filled letters) (Disj U M ∷ []))
     (paired RevRight left right))
 rev_right_asks left (rev part) = (refl, omega arith)
 rev_right_asks left _ = tt
@@ -163,10 +163,10 @@ pairing_asks : (pairing : Pairing) (needs : List Need) → asks_so pairing needs
 unfolding asks_so
 pairing_asks PassDrop [] h left right = pass_drop_asks left right
 pairing_asks DropPass [] h left right = drop_pass_asks left right
-pairing_asks SeqLeft (Disj M T ∷ []) h left right = seq_left_asks left right
-pairing_asks RevLeft (Disj M T ∷ []) h left right = rev_left_asks left right
-pairing_asks SeqRight (Disj T M ∷ []) h left right = seq_right_asks left right
-pairing_asks RevRight (Disj T M ∷ []) h left right = rev_right_asks left right
+pairing_asks SeqLeft (Disj M U ∷ []) h left right = seq_left_asks left right
+pairing_asks RevLeft (Disj M U ∷ []) h left right = rev_left_asks left right
+pairing_asks SeqRight (Disj U M ∷ []) h left right = seq_right_asks left right
+pairing_asks RevRight (Disj U M ∷ []) h left right = rev_right_asks left right
 pairing_asks _ _ h left right = no_true h
 
 conclusion_asks : (conclusion : Conclusion) (needs : List Need) → asks_of_terms conclusion needs ≡ true

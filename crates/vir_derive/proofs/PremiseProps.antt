@@ -5,7 +5,7 @@ use Rattle.std.specs.Option.{option_and_then}
 use Rattle.vir_term.specs.Tree.{Tree, rev, seq, par, loop, leaf}
 use Rattle.vir_rules.specs.declared.row.Need.{Need}
 use Rattle.vir_rules.specs.declared.row.Need.TheVariants.{Of, Disj}
-use Rattle.vir_rules.specs.declared.row.Part.TheVariants.{M, N, T}
+use Rattle.vir_rules.specs.declared.row.Part.TheVariants.{M, N, T, U}
 use Rattle.vir_rules.specs.Claims.{Claim, of, disj}
 use Rattle.vir_rules.specs.Forms.{form_of, first_part, second_part}
 use Rattle.vir_rules.specs.Premises.{letters_of, filled, premises, row_of}
@@ -32,6 +32,7 @@ tree_of_need : (t : Tree) (k : ℕ) (props : PropsTree) (need : Need) → IsTold
 tree_of_need t k props (Of wanted M) told a = (tree_of_parts t props told a).0
 tree_of_need t k props (Of wanted N) told a = (tree_of_parts t props told a).1
 tree_of_need t k props (Of wanted T) told a = a
+tree_of_need t k props (Of wanted U) told a = absurd told
 tree_of_need t k props (Disj left right) told a = tt
 
 tree_of_disjointness : (left right : Tree) (needed : List Claim) (i : ℕ) (premise : Claim) (props : PropsTree)

@@ -14,7 +14,7 @@ use Rattle.vir_rules.specs.declared.row.Conclusion.{Conclusion}
 use Rattle.vir_rules.specs.declared.row.Conclusion.TheVariants.{Has, Apart}
 use Rattle.vir_rules.specs.declared.row.Need.{Need}
 use Rattle.vir_rules.specs.declared.row.Need.TheVariants.{Of, Disj}
-use Rattle.vir_rules.specs.declared.row.Part.TheVariants.{M, N, T}
+use Rattle.vir_rules.specs.declared.row.Part.TheVariants.{M, N, T, U}
 use Rattle.vir_rules.specs.declared.row.Shape.{Shape}
 use Rattle.vir_rules.specs.declared.row.Shape.TheVariants as shape
 use Rattle.vir_rules.specs.declared.row.Wanted.{Wanted}
@@ -81,6 +81,7 @@ need_rank _ = 0
 -- whether a premise is smaller than its row's conclusion on a term
 falls : Conclusion → Need → Bool
 falls (Has wanted s) (Of other T) = nat_lt (rank (prop_for other 0)) (rank (prop_for wanted 0))
+falls (Has wanted s) (Of other U) = false
 falls (Has wanted s) (Of other _) = composed_shape s
 falls (Has wanted s) (Disj M N) = forked_shape s
 falls (Has wanted s) (Disj _ _) = false
@@ -179,6 +180,7 @@ below_by wanted s q form k (Of other T) n h f = (
   },
   tt,
 )
+below_by wanted s q form k (Of other U) n h f = no_true f
 below_by wanted s q form k (Disj M N) n h f = (
   record {
     told = composed_if_forked form (forked_if_shaped s k form h f);
@@ -232,6 +234,7 @@ filled_smaller q t k (Of wanted M) b two = let s : size (first_part t) < size t 
 filled_smaller q t k (Of wanted N) b two = let s : size (second_part t) < size t = (parts_smaller t b.told).1 in let w =
     rank_within q in let r = rank_within (prop_for wanted k) in omega arith
 filled_smaller q t k (Of wanted T) b two = let e = rank_for wanted k in let l = b.before in omega arith
+filled_smaller q t k (Of wanted U) b two = absurd b.told
 filled_smaller q t k (Disj M N) b two = let s = both_smaller t two in let w = rank_within q in omega arith
 filled_smaller q t k (Disj _ _) b two = absurd b.told
 

@@ -1,4 +1,5 @@
 -- What deriving answers.
+-- (The program's promises don't stand on this file.)
 use Rattle.either.specs.declared.Either.{Either}
 use Rattle.either.specs.declared.Either.TheVariants.{Left, Right}
 use Rattle.vir_rules.specs.declared.derivation.Derivation.{Derivation}

@@ -1,4 +1,5 @@
 -- What is derivable of a term, and what is seen of a term from which this follows.
+-- (The program's promises don't stand on this file.)
 use Rattle.std.specs.Prelude.{◌≡◌, ◌↔◌, ℕ, Bool, true, false, ◌&&◌, nat_eq, if◌then◌else◌, Option, Some, None, IsTrue}
 use Rattle.std.specs.Prelude.{⊤}
 use Rattle.vir_term.specs.declared.prop.Prop.{Prop}
@@ -6,7 +7,7 @@ use Rattle.vir_term.specs.declared.prop.Prop.TheVariants as prop
 use Rattle.vir_term.specs.Tree.{Tree}
 use Rattle.vir_rules.specs.declared.row.Need.{Need}
 use Rattle.vir_rules.specs.declared.row.Need.TheVariants as need
-use Rattle.vir_rules.specs.declared.row.Part.TheVariants.{M, N, T}
+use Rattle.vir_rules.specs.declared.row.Part.TheVariants.{M, N, T, U}
 use Rattle.vir_rules.specs.Claims.{of}
 use Rattle.vir_rules.specs.Derivations.{Derivable}
 use Rattle.vir_rules.specs.Forms.{Form, leaf, form_of, first_part, second_part}
@@ -71,10 +72,10 @@ pub record IsSeenWithin (numbers : ℕ → Bool) (form : Form) (first second : D
   pub opposed_is : IsTrue (is_composed form) → opposed ≡ are_opposed (first_part term) (second_part term)
 
 -- A premise on a term of this form can be told from what is seen of it: it is on the term, on a part that there is, or
--- says that
--- the first and the second part are disjoint.
+-- says that the first and the second part are disjoint.
 abbrev pub IsTold : Form → Need → Type 0
 IsTold form (need.Of wanted T) = ⊤
+IsTold form (need.Of wanted U) = ⊥
 IsTold form (need.Of wanted _) = IsTrue (is_composed form)
 IsTold form (need.Disj M N) = IsTrue (is_composed form)
 IsTold form (need.Disj _ _) = ⊥

@@ -1,4 +1,5 @@
 -- Heads of terms: by them alone two terms are derivably disjoint or not.
+-- (The program's promises don't stand on this file.)
 use Rattle.std.specs.Prelude.{Bool, false, ◌&&◌, nat_eq, Option, Some, None}
 use Rattle.std.specs.Cmp.Lexicographic.{pointwise}
 use Rattle.vir_term.specs.declared.leaf.Leaf.{Leaf}

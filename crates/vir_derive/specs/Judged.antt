@@ -1,4 +1,5 @@
 -- Judgements beside what is derivable of their terms.
+-- (The program's promises don't stand on this file.)
 use Rattle.std.specs.Prelude.{◌≡◌, ℕ, List, Option, Some}
 use Rattle.vir_rules.specs.Claims.{Claim, claim}
 use Rattle.vir_rules.specs.Derivations.{AreFirst}

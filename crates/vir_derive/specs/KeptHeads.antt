@@ -1,4 +1,5 @@
 -- The heads that signatures keep.
+-- (The program's promises don't stand on this file.)
 use Rattle.std.specs.Prelude.{Option, option_map, if◌then◌else◌}
 use Rattle.vir_term.specs.declared.leaf.Leaf.{Leaf}
 use Rattle.vir_term.specs.declared.leaf.Leaf.TheVariants.{PassFirst, DropFirst}

@@ -1,4 +1,5 @@
 -- With which numbers a property can be derivable of a term.
+-- (The program's promises don't stand on this file.)
 use Rattle.std.specs.Prelude.{ℕ, Bool, true, nat_eq, List, Option, Some, None, IsTrue}
 use Rattle.std.specs.List.{list_any}
 use Rattle.vir_term.specs.declared.prop.Prop.{Prop}

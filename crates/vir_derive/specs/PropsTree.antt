@@ -1,4 +1,5 @@
 -- What is derivable of a term and of all its parts.
+-- (The program's promises don't stand on this file.)
 use Rattle.std.specs.Prelude.{◌≡◌, Bool, true, false, IsTrue, ⊤}
 use Rattle.vir_term.specs.Tree.{Tree}
 use Rattle.vir_term.specs.Tree as tree

@@ -1,5 +1,6 @@
 -- Which rows of the table conclude a property: they stand together in two places, in the order of the properties in the
 -- first, and behind it in the second.
+-- (The program's promises don't stand on this file.)
 use Rattle.std.specs.Prelude.{ℕ, suc, List, [], ◌∷◌, slice_index}
 use Rattle.vir_term.specs.declared.prop.Prop.{Prop}
 use Rattle.vir_rules.specs.Props.{rank}

@@ -1,4 +1,5 @@
 -- What the code sees of a term.
+-- (The program's promises don't stand on this file.)
 use Rattle.std.specs.Prelude.{ℕ, Bool}
 use Rattle.vir_term.specs.Tree.{Tree}
 use Rattle.vir_rules.specs.Forms.{form_seen}

@@ -1,4 +1,5 @@
 -- Signatures: what decides which of the properties with some numbers are derivable of what a term is composed into.
+-- (The program's promises don't stand on this file.)
 use Rattle.std.specs.Prelude.{◌≡◌, ◌↔◌, ℕ, Bool, List, IsTrue, Option}
 use Rattle.vir_term.specs.declared.leaf.Leaf.{Leaf}
 use Rattle.vir_term.specs.declared.prop.Prop.{Prop}
@@ -26,8 +27,7 @@ abbrev pub head_of : Signature → Option Leaf
 head_of s = head_seen s.head
 
 -- It is the signature of a term for these numbers: its properties are those with no number or one of these that are
--- derivable,
--- and its head is the term's.
+-- derivable, and its head is the term's.
 pub record IsSignatureOf (numbers : List ℕ) (s : Signature) (t : Tree) : Type 0 where
   pub numbers_are : numbers_of s ≡ numbers
   pub enough : AreEnough (is_listed numbers)
@@ -45,8 +45,7 @@ abbrev pub are_equal : Signature → Signature → Bool
 are_equal = (signature_eq.ghosts).eq
 
 -- It is the signature of each term of this form with this head that has parts of these signatures, for the same
--- numbers, with heads
--- opposed or not.
+-- numbers, with heads opposed or not.
 abbrev pub JoinsParts : Form → Signature → Signature → Bool → Option Leaf → Signature → Type 0
 JoinsParts form first second opposed kept s =
     (numbers : List ℕ) → (term : Tree) → form_of term ≡ form → IsTrue (is_composed form) →

@@ -130,6 +130,8 @@ impl<'a> Sight<'a> {
             Need::Of(wanted, Part::M) => self.first.has(prop_for(wanted, k)),
             Need::Of(wanted, Part::N) => self.second.has(prop_for(wanted, k)),
             Need::Of(wanted, Part::T) => self.derives(prop_for(wanted, k)),
+            // A row on one term has no other term.
+            Need::Of(_, Part::U) => unreachable!(),
             // A row asks this only of the first part and the second.
             Need::Disj(_, _) => self.opposed,
         }

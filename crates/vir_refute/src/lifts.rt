@@ -7,7 +7,7 @@ ghost use Rattle.vir_mean.specs.Lifts.{without, Raises, Lifts};
 ghost use Rattle.vir_refute.specs.Cases.{IsLift};
 ghost use Rattle.vir_refute.specs.Judged.{election_of};
 
-use vir_profile::{Entry, Profile};
+use vir_profile::{Entry, NARROW, Profile};
 
 // The place after y, where y is the next alternative other than x from a place on.
 fn after_next(order: &[u16], from: usize, x: u16, y: u16) -> Option<usize>
@@ -70,8 +70,10 @@ fn place_of(order: &[u16], x: u16) -> usize
 fn raises(before: &Entry, after: &Entry, x: u16) -> bool
     ensures { IsTrue result ↔ Raises x before.now after.now }
 {
-    let order_before = before.order.alternatives();
-    let order_after = after.order.alternatives();
+    let mut room_before = [0; NARROW];
+    let mut room_after = [0; NARROW];
+    let order_before = before.order.alternatives(&mut room_before);
+    let order_after = after.order.alternatives(&mut room_after);
     before.weight == after.weight
         && same_but(order_before, order_after, x)
         && place_of(order_after, x) <= place_of(order_before, x)

@@ -1,12 +1,13 @@
 -- There is one list of reasons against a claim.
-use Rattle.std.proofs.Common.{◌≡◌, ℕ, zero, suc, ◌<◌, ◌≤◌, List, [], ◌∷◌, ◌++◌, length, take, slice_get, Option, Some}
-use Rattle.std.proofs.Common.{None, MatchOption, sym, ◌∙◌, ap, subst, arith, inl, inr}
+use Rattle.std.proofs.Common.{◌≡◌, ℕ, zero, suc, ◌<◌, ◌≤◌, List, [], ◌∷◌, length, take, slice_get, Some, refl}
+use Rattle.std.proofs.Common.{sym, ◌∙◌, ap, subst, arith, inl, inr}
 use Rattle.std.proofs.lemmas.Bool.{cases_lt}
 use Rattle.vir_rules.specs.Claims.{Claim}
 use Rattle.vir_rules.specs.Premises.{premises}
 use Rattle.vir_rules.specs.Table.{table}
 use Rattle.vir_rules.specs.Derivations.{Derivable, AllDerivable}
-use Rattle.vir_rules.specs.Reasons.{Reason, IsFirstUnderived, IsReasonOf, AreReasonsUpTo, AreReasons}
+use Rattle.vir_rules.specs.Reasons.{Reason, IsFirstUnderived, IsReasonOf, IsReasonBy, AreReasonsBy, fitting}
+use Rattle.vir_rules.specs.Reasons.{AreReasons}
 
 -- of derivable claims each is derivable
 pub derivable_before : (needed : List Claim) (place before : ℕ) (c : Claim) → slice_get needed place ≡ Some c
@@ -46,29 +47,26 @@ one_reason rule needed reason other is is' =
     let rest = one_underived needed reason.number other.number reason.premise other.premise is.first is'.first in
     λ i. record { rule = rules i; number = rest.0 i; premise = rest.1 i }
 
--- what the reasons up to the next rule are, by that rule's premises
-abbrev Added : ℕ → Claim → List Reason → Option (List Claim) → Type 0
-Added rule c reasons known = MatchOption known (AreReasonsUpTo rule c reasons)
-    (λ needed. (earlier : List Reason) × (last : Reason) × (reasons ≡ earlier ++ last ∷ []) × AreReasonsUpTo rule c
-    earlier × IsReasonOf (suc rule) needed last)
+one_reason_by : (c : Claim) (rule : ℕ) (reason other : Reason) → IsReasonBy c rule reason → IsReasonBy c rule other
+    → reason ≡ other
+one_reason_by c rule reason other is is' =
+    let fits : premises rule c ≡ Some is.needed = is.fits in
+    let fits' : premises rule c ≡ Some is'.needed = is'.fits in
+    let same : is'.needed ≡ is.needed = cc in
+    one_reason rule is.needed reason other is.first (subst (λ needed. IsReasonOf rule needed other) same is'.first)
 
-one_list_added : (rule : ℕ) (c : Claim) (known : Option (List Claim)) (reasons others : List Reason) →
-    ((xs ys : List Reason) → AreReasonsUpTo rule c xs → AreReasonsUpTo rule c ys → xs ≡ ys) → Added rule c reasons known
-    → Added rule c others known → reasons ≡ others
-one_list_added rule c None reasons others one are are' = one reasons others are are'
-one_list_added rule c (Some needed) reasons others one are are' =
-    let earlier : are.0 ≡ are'.0 = one are.0 are'.0 are.3 are'.3 in
-    let last : are.1 ≡ are'.1 = one_reason (suc rule) needed are.1 are'.1 are.4 are'.4 in
-    are.2 ∙ ap (λ reason. are.0 ++ reason ∷ []) last ∙ ap (λ xs. xs ++ are'.1 ∷ []) earlier ∙ sym are'.2
-
-one_list : (rule : ℕ) (c : Claim) (reasons others : List Reason) → AreReasonsUpTo rule c reasons → AreReasonsUpTo rule c
-    others → reasons ≡ others
-unfolding AreReasonsUpTo
-one_list zero c reasons others are are' = are ∙ sym are'
-one_list (suc rule) c reasons others are are' = one_list_added rule c (premises (suc rule) c) reasons others
-    (one_list rule c) are are'
+one_list : (rules : List ℕ) (c : Claim) (reasons others : List Reason) → AreReasonsBy c rules reasons → AreReasonsBy c
+    rules others → reasons ≡ others
+one_list [] c [] [] are are' = refl
+one_list [] c [] (_ ∷ _) are are' = absurd are'
+one_list [] c (_ ∷ _) others are are' = absurd are
+one_list (rule ∷ rules) c [] others are are' = absurd are
+one_list (rule ∷ rules) c (reason ∷ reasons) [] are are' = absurd are'
+one_list (rule ∷ rules) c (reason ∷ reasons) (other ∷ others) are are' =
+    let first : reason ≡ other = one_reason_by c rule reason other are.0 are'.0 in
+    ap (λ r. r ∷ reasons) first ∙ ap (λ rs. other ∷ rs) (one_list rules c reasons others are.1 are'.1)
 
 -- there is one list of reasons against a claim
 pub one_list_of_reasons : (c : Claim) (reasons others : List Reason) → AreReasons c reasons → AreReasons c others
     → reasons ≡ others
-one_list_of_reasons c reasons others = one_list (length table) c reasons others
+one_list_of_reasons c reasons others = one_list (fitting (length table) c) c reasons others

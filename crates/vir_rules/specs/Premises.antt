@@ -15,7 +15,7 @@ use Rattle.vir_rules.specs.declared.row.Pairing.TheVariants.{PassDrop, DropPass,
 use Rattle.vir_rules.specs.declared.row.Conclusion.{Conclusion}
 use Rattle.vir_rules.specs.declared.row.Conclusion.TheVariants.{Has, Apart}
 use Rattle.vir_rules.specs.declared.row.Part.{Part}
-use Rattle.vir_rules.specs.declared.row.Part.TheVariants.{M, N, T}
+use Rattle.vir_rules.specs.declared.row.Part.TheVariants.{M, N, T, U}
 use Rattle.vir_rules.specs.declared.row.Need.{Need}
 use Rattle.vir_rules.specs.declared.row.Need.TheVariants as need
 use Rattle.vir_rules.specs.Claims.{Claim, of, disj}
@@ -23,12 +23,13 @@ use Rattle.vir_rules.specs.Props.{is_same, number_of}
 use Rattle.vir_rules.specs.Forms.{Form, form_of, first_part, second_part, is_shaped}
 use Rattle.vir_rules.specs.Table.{Rule, rule, table}
 
--- what the letters of a row stand for
+-- what the letters of a row stand for; a letter that a row doesn't use stands for a term that another one stands for
 pub record Letters : Type 0 where
   pub k : ℕ
   pub m : Tree
   pub n : Tree
   pub t : Tree
+  pub u : Tree
 
 -- the number that k stands for, where a property is the wanted one
 abbrev pub number_in : Wanted → Prop → Option ℕ
@@ -45,11 +46,11 @@ number_for (Apart pairing) prop form = None
 
 -- the letters of a row on a term and a number
 abbrev pub letters_of : Tree → ℕ → Letters
-letters_of term number = record { k = number; m = first_part term; n = second_part term; t = term }
+letters_of term number = record { k = number; m = first_part term; n = second_part term; t = term; u = term }
 
 -- the letters of a row on two terms: the first part of the one that is composed, and the other one
 abbrev pub letters_of_pair : Tree → Tree → Letters
-letters_of_pair part other = record { k = 0; m = part; n = part; t = other }
+letters_of_pair part other = record { k = 0; m = part; n = part; t = part; u = other }
 
 -- these letters, where two numbers and two fixed orders are the same
 abbrev pub if_same_order : ℕ → List ℕ → ℕ → List ℕ → Letters → Option Letters
@@ -84,6 +85,7 @@ abbrev pub part_of : Part → Letters → Tree
 part_of M letters = letters.m
 part_of N letters = letters.n
 part_of T letters = letters.t
+part_of U letters = letters.u
 
 -- a premise, with its letters filled in
 abbrev pub filled : Letters → Need → Claim

@@ -1,10 +1,10 @@
 -- Why a claim has no derivation: for each rule that fits, its first premise that has none.
-use Rattle.std.specs.Prelude.{◌≡◌, ℕ, zero, suc, ◌+◌, List, [], ◌∷◌, ◌++◌, Some, map, slice_get, take, length}
-use Rattle.std.specs.Prelude.{MatchOption}
+use Rattle.std.specs.Prelude.{◌≡◌, ℕ, ◌+◌, List, [], ◌∷◌, Some, map, filter, slice_get, take, length}
+use Rattle.std.specs.List.{range_with_len}
 use Rattle.vir_rules.specs.declared.why.Why.{Why}
 use Rattle.vir_rules.specs.declared.why.WhyLine.{WhyLine}
 use Rattle.vir_rules.specs.Claims.{Claim, claim}
-use Rattle.vir_rules.specs.Premises.{premises}
+use Rattle.vir_rules.specs.Premises.{premises, fits}
 use Rattle.vir_rules.specs.Table.{table}
 use Rattle.vir_rules.specs.Derivations.{Derivable, AllDerivable}
 
@@ -27,17 +27,25 @@ pub record IsReasonOf (rule : ℕ) (needed : List Claim) (reason : Reason) : Typ
   pub of_rule : reason.rule ≡ rule
   pub first : IsFirstUnderived needed reason.number reason.premise
 
--- These are the reasons of the rules up to a number, in their order: one for each rule that fits.
-unfoldable pub AreReasonsUpTo : ℕ → Claim → List Reason → Type 0
-AreReasonsUpTo zero c reasons = reasons ≡ []
-AreReasonsUpTo (suc rule) c reasons =
-    MatchOption (premises (suc rule) c) (AreReasonsUpTo rule c reasons)
-    (λ needed. (earlier : List Reason) × (last : Reason) × (reasons ≡ earlier ++ last ∷ []) × AreReasonsUpTo rule c
-    earlier × IsReasonOf (suc rule) needed last)
+-- A reason against a claim is that of a rule which fits it.
+pub record IsReasonBy (c : Claim) (rule : ℕ) (reason : Reason) : Type 0 where
+  pub needed : List Claim
+  pub fits : premises rule c ≡ Some needed
+  pub first : IsReasonOf rule needed reason
 
--- These are the reasons against a claim.
+-- These are the reasons of these rules, one for each in their order.
+abbrev pub AreReasonsBy : Claim → List ℕ → List Reason → Type 0
+AreReasonsBy c [] [] = Unit {0}
+AreReasonsBy c (rule ∷ rules) (reason ∷ reasons) = IsReasonBy c rule reason × AreReasonsBy c rules reasons
+AreReasonsBy c _ _ = ⊥
+
+-- of the first so many rules of the table, those that fit a claim, in their order
+unfoldable pub fitting : ℕ → Claim → List ℕ
+fitting most c = filter (λ rule. fits rule c) (range_with_len 1 most)
+
+-- These are the reasons against a claim: one for each rule of the table that fits.
 abbrev pub AreReasons : Claim → List Reason → Type 0
-AreReasons c reasons = AreReasonsUpTo (length table) c reasons
+AreReasons c reasons = AreReasonsBy c (fitting (length table) c) reasons
 
 -- a reason of the code
 abbrev pub reason_seen : WhyLine → Reason

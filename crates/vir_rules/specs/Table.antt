@@ -1,6 +1,23 @@
--- The table of rules. Each row has the name of its rule; what it concludes: a property and the shape of a
--- term t that then has it, or a pairing of two terms that are then disjoint; and its premises in their order,
--- on t and its parts m and n. A rule's number is that of its row, from 1.
+-- The table of rules. Each row has the name of its rule; what it concludes: a property and the shape of a term t that
+-- then has it, or a pairing of two terms that are then disjoint; and its premises in their order. A rule's number is
+-- that of its row, from 1. The letters of a row on one term are t, its first part m, its second part n, and a number
+-- k. Those of a row on a pairing are the first part m of the term that is composed, and the other term u.
+--
+-- One row read aloud:
+--
+--     rule (codes "defers-seq-both") (Has defers_k seq) (Of defers_k m ∷ Of defers_k n ∷ []) ∷
+--
+--   `rule`                      there is a rule
+--   `codes "defers-seq-both"`   of this name. In reports and certificates it goes by that, and laws go by its number
+--   `Has defers_k seq`          that concludes `defers(k)`, for any number k, of a sequence t, which is `seq(m,n)`,
+--   `Of defers_k m ∷`           where `defers(k)` is derivable of m, for the same k,
+--   `Of defers_k n ∷ []`        and of n.
+--   `∷`                         The next row follows.
+--
+-- `Of elim_1 t` is a premise on t itself. `Disj m n` is one that m and n are disjoint. `Apart seq_left` concludes that
+-- a sequence on the left and u on the right are disjoint, and `Disj m u` asks this of the first part and u.
+-- `module_of KeepingSome` is any module of that family: `specs/Families.antt` says which these are.
+-- `specs/Premises.antt` has in definitions how a row is read.
 use Rattle.std.specs.Prelude.{ℕ, List, [], ◌∷◌, codes}
 use Rattle.vir_term.specs.declared.prop.Prop.TheVariants as prop
 use Rattle.vir_rules.specs.declared.row.Wanted.{Wanted}
@@ -17,7 +34,7 @@ use Rattle.vir_rules.specs.declared.row.Pairing.TheVariants.{SeqLeft as seq_left
 use Rattle.vir_rules.specs.declared.row.Pairing.TheVariants.{RevLeft as rev_left, RevRight as rev_right}
 use Rattle.vir_rules.specs.declared.row.Conclusion.{Conclusion}
 use Rattle.vir_rules.specs.declared.row.Conclusion.TheVariants.{Has, Apart}
-use Rattle.vir_rules.specs.declared.row.Part.TheVariants.{M as m, N as n, T as t}
+use Rattle.vir_rules.specs.declared.row.Part.TheVariants.{M as m, N as n, T as t, U as u}
 use Rattle.vir_rules.specs.declared.row.Need.{Need}
 use Rattle.vir_rules.specs.declared.row.Need.TheVariants.{Of, Disj}
 
@@ -170,10 +187,10 @@ table =
     rule (codes "ccomp-cc") (Has ccomp any) (Of cc t ∷ []) ∷
     rule (codes "disj-pass-drop") (Apart pass_and_drop) [] ∷
     rule (codes "disj-drop-pass") (Apart drop_and_pass) [] ∷
-    rule (codes "disj-seq-left") (Apart seq_left) (Disj m t ∷ []) ∷
-    rule (codes "disj-seq-right") (Apart seq_right) (Disj t m ∷ []) ∷
-    rule (codes "disj-rev-left") (Apart rev_left) (Disj m t ∷ []) ∷
-    rule (codes "disj-rev-right") (Apart rev_right) (Disj t m ∷ []) ∷
+    rule (codes "disj-seq-left") (Apart seq_left) (Disj m u ∷ []) ∷
+    rule (codes "disj-seq-right") (Apart seq_right) (Disj u m ∷ []) ∷
+    rule (codes "disj-rev-left") (Apart rev_left) (Disj m u ∷ []) ∷
+    rule (codes "disj-rev-right") (Apart rev_right) (Disj u m ∷ []) ∷
     rule (codes "neut-leaf") (Has neut (module_of Unordered)) [] ∷
     rule (codes "neut-rev") (Has neut rev) (Of neut m ∷ []) ∷
     rule (codes "neut-seq") (Has neut seq) (Of neut m ∷ Of neut n ∷ []) ∷

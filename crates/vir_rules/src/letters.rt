@@ -11,13 +11,14 @@ use crate::numbers::{number_by, prop_for};
 use crate::row::{Conclusion, Need, Pairing, Part};
 use vir_term::{Leaf, Term};
 
-// A row's number k, and its terms m, n and t.
+// A row's number k, and its terms m, n, t and u.
 #[derive(Clone, Copy)]
 pub(crate) struct Letters<'a> {
     k: u32,
     m: &'a Term,
     n: &'a Term,
     t: &'a Term,
+    u: &'a Term,
 }
 
 // The letters of a row on a term and a number.
@@ -30,7 +31,13 @@ fn letters_of<'a>(term: &'a Term, k: u32) -> Letters<'a>
         Term::Seq(first, second) | Term::Par(first, second) => (first, second),
         Term::Loop { body, .. } | Term::Until { body, .. } => (body, body),
     };
-    Letters { k, m, n, t: term }
+    Letters {
+        k,
+        m,
+        n,
+        t: term,
+        u: term,
+    }
 }
 
 // The letters of a row on two terms: the first part of the one that is composed, and the other one.
@@ -41,7 +48,8 @@ fn letters_of_pair<'a>(part: &'a Term, other: &'a Term) -> Letters<'a>
         k: 0,
         m: part,
         n: part,
-        t: other,
+        t: part,
+        u: other,
     }
 }
 
@@ -95,6 +103,7 @@ fn part_of<'a>(part: Part, letters: Letters<'a>) -> &'a Term
         Part::M => letters.m,
         Part::N => letters.n,
         Part::T => letters.t,
+        Part::U => letters.u,
     }
 }
 

@@ -1,5 +1,6 @@
-// What the rows of the table are written with. A row speaks of a term t, of its parts m and n in their
-// order, and of a number k.
+// What the rows of the table are written with. A row on one term speaks of that term t, of its parts m and n
+// in their order, and of a number k. A row on a pair of terms speaks of the first part m of the one that is
+// composed, and of the other term u.
 use vir_term::Prop;
 
 /// A property as a row writes it.
@@ -74,7 +75,7 @@ pub enum Shape {
     UntilOne,
 }
 
-/// Two terms that a row calls disjoint. The one that is composed has the first part m; the other is t.
+/// Two terms that a row calls disjoint. The one that is composed has the first part m; the other is u.
 #[derive(Clone, Copy)]
 pub enum Pairing {
     /// `pass` and `drop` of one number and one fixed order.
@@ -103,12 +104,14 @@ pub enum Conclusion {
 /// A term that a premise is about.
 #[derive(Clone, Copy)]
 pub enum Part {
-    /// The first part of t.
+    /// The first part of t; in a pairing, that of the term that is composed.
     M,
     /// The second part of t.
     N,
-    /// The whole term, or in a pairing the other one.
+    /// The whole term t.
     T,
+    /// In a pairing, the other term u.
+    U,
 }
 
 /// A premise as a row writes it.

@@ -8,7 +8,7 @@ use crate::row::Conclusion::{Apart, Has};
 use crate::row::Family::*;
 use crate::row::Need::{Disj, Of};
 use crate::row::Pairing::*;
-use crate::row::Part::{M, N, T};
+use crate::row::Part::{M, N, T, U};
 use crate::row::Row;
 use crate::row::Shape::*;
 use crate::row::Wanted::{self, DefersK, Is, RejectsK};
@@ -200,10 +200,10 @@ static ROWS: [Row; RuleId::COUNT] = [
     Row("ccomp-cc", Has(CCOMP, Any), &[Of(CC, T)]),
     Row("disj-pass-drop", Apart(PassDrop), &[]),
     Row("disj-drop-pass", Apart(DropPass), &[]),
-    Row("disj-seq-left", Apart(SeqLeft), &[Disj(M, T)]),
-    Row("disj-seq-right", Apart(SeqRight), &[Disj(T, M)]),
-    Row("disj-rev-left", Apart(RevLeft), &[Disj(M, T)]),
-    Row("disj-rev-right", Apart(RevRight), &[Disj(T, M)]),
+    Row("disj-seq-left", Apart(SeqLeft), &[Disj(M, U)]),
+    Row("disj-seq-right", Apart(SeqRight), &[Disj(U, M)]),
+    Row("disj-rev-left", Apart(RevLeft), &[Disj(M, U)]),
+    Row("disj-rev-right", Apart(RevRight), &[Disj(U, M)]),
     Row("neut-leaf", Has(NEUT, ModuleOf(Unordered)), &[]),
     Row("neut-rev", Has(NEUT, Rev), &[Of(NEUT, M)]),
     Row("neut-seq", Has(NEUT, Seq), &[Of(NEUT, M), Of(NEUT, N)]),

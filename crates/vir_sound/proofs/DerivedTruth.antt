@@ -10,7 +10,7 @@ use Rattle.vir_rules.specs.declared.row.Pairing.TheVariants.{PassDrop, DropPass,
 use Rattle.vir_rules.specs.declared.row.Conclusion.{Conclusion}
 use Rattle.vir_rules.specs.declared.row.Conclusion.TheVariants.{Has, Apart}
 use Rattle.vir_rules.specs.declared.row.Part.{Part}
-use Rattle.vir_rules.specs.declared.row.Part.TheVariants.{M, N, T}
+use Rattle.vir_rules.specs.declared.row.Part.TheVariants.{M, N, T, U}
 use Rattle.vir_rules.specs.declared.row.Need.{Need}
 use Rattle.vir_rules.specs.declared.row.Need.TheVariants as need
 use Rattle.vir_rules.specs.Claims.{Claim, of, disj}
@@ -35,16 +35,17 @@ record AreProper (letters : Letters) : Type 0 where
   m : IsProper letters.m
   n : IsProper letters.n
   t : IsProper letters.t
+  u : IsProper letters.u
 
 letters_proper : (term : Tree) (k : ℕ) → IsProper term → AreProper (letters_of term k)
-letters_proper (leaf l) k proper = record { m = proper; n = proper; t = proper }
-letters_proper (rev part) k proper = record { m = proper; n = proper; t = proper }
-letters_proper (seq first second) k proper = record { m = proper.0; n = proper.1; t = proper }
-letters_proper (par first second) k proper = record { m = proper.0; n = proper.1; t = proper }
-letters_proper (loop j body) k proper = record { m = proper.1; n = proper.1; t = proper }
+letters_proper (leaf l) k proper = record { m = proper; n = proper; t = proper; u = proper }
+letters_proper (rev part) k proper = record { m = proper; n = proper; t = proper; u = proper }
+letters_proper (seq first second) k proper = record { m = proper.0; n = proper.1; t = proper; u = proper }
+letters_proper (par first second) k proper = record { m = proper.0; n = proper.1; t = proper; u = proper }
+letters_proper (loop j body) k proper = record { m = proper.1; n = proper.1; t = proper; u = proper }
 
 of_pair : (part other : Tree) → IsProper part → IsProper other → AreProper (letters_of_pair part other)
-of_pair part other one two = record { m = one; n = one; t = two }
+of_pair part other one two = record { m = one; n = one; t = one; u = two }
 
 kept_by : (found letters : Letters) → Some found ≡ Some letters → AreProper found → AreProper letters
 kept_by found letters e proper = subst AreProper (some_same found letters e) proper
@@ -85,6 +86,7 @@ part_proper : (part : Part) (letters : Letters) → AreProper letters → IsProp
 part_proper M letters are = are.m
 part_proper N letters are = are.n
 part_proper T letters are = are.t
+part_proper U letters are = are.u
 
 filled_proper : (letters : Letters) → AreProper letters → (needs : List Need) → AllProper (map (filled letters) needs)
 filled_proper letters are [] = tt

@@ -64,11 +64,11 @@ with_letters found letters X e x = subst X (some_same found letters e) x
 
 -- the first part of the left term is disjoint from the right one
 abbrev Left_apart : Tree → Tree → Letters → Type 0
-Left_apart s t letters = AreDisjoint (mean letters.m) (mean letters.t) → AreDisjoint (mean s) (mean t)
+Left_apart s t letters = AreDisjoint (mean letters.m) (mean letters.u) → AreDisjoint (mean s) (mean t)
 
 -- the left term is disjoint from the first part of the right one
 abbrev Right_apart : Tree → Tree → Letters → Type 0
-Right_apart s t letters = AreDisjoint (mean letters.t) (mean letters.m) → AreDisjoint (mean s) (mean t)
+Right_apart s t letters = AreDisjoint (mean letters.u) (mean letters.m) → AreDisjoint (mean s) (mean t)
 
 seq_left : (s t : Tree) (letters : Letters) → paired SeqLeft s t ≡ Some letters → Left_apart s t letters
 seq_left (seq m n) t letters e = with_letters (letters_of_pair m t) letters (Left_apart (seq m n) t) e

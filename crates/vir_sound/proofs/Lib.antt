@@ -29,6 +29,5 @@ pub mod WinnerLeaves
 pub mod NeutralLaws
 pub mod NeutralRows
 pub mod AllRows
-pub mod SmallElections
 pub mod WrongRows
 pub mod DerivedTruth

@@ -118,40 +118,28 @@ module _ (q : Prop) (row : Rule) where
     where
       at : (t : Tree) → is_shaped (ModuleOf family) (number_of q) (form_of t) ≡ true → IsProper t → Row_law t
       at (leaf l) is proper = law l proper is
-      at (rev part) is proper = false_true is
-      at (seq first second) is proper = false_true is
-      at (par first second) is proper = false_true is
-      at (loop k body) is proper = false_true is
+      at _ is proper = false_true is
 
   pub by_rev : row.conclusion ≡ Has (Is q) Rev → ((m : Tree) → Row_law (rev m)) → IsSoundRow row
   by_rev is law = of_row row (Has (Is q) Rev) is (by_shape q Rev row.premises at row.name)
     where
       at : (t : Tree) → is_shaped Rev (number_of q) (form_of t) ≡ true → IsProper t → Row_law t
       at (rev part) is proper = law part
-      at (leaf l) is proper = false_true is
-      at (seq first second) is proper = false_true is
-      at (par first second) is proper = false_true is
-      at (loop k body) is proper = false_true is
+      at _ is proper = false_true is
 
   pub by_seq : row.conclusion ≡ Has (Is q) Seq → ((m n : Tree) → Row_law (seq m n)) → IsSoundRow row
   by_seq is law = of_row row (Has (Is q) Seq) is (by_shape q Seq row.premises at row.name)
     where
       at : (t : Tree) → is_shaped Seq (number_of q) (form_of t) ≡ true → IsProper t → Row_law t
       at (seq first second) is proper = law first second
-      at (leaf l) is proper = false_true is
-      at (rev part) is proper = false_true is
-      at (par first second) is proper = false_true is
-      at (loop k body) is proper = false_true is
+      at _ is proper = false_true is
 
   pub by_par : row.conclusion ≡ Has (Is q) Par → ((m n : Tree) → Row_law (par m n)) → IsSoundRow row
   by_par is law = of_row row (Has (Is q) Par) is (by_shape q Par row.premises at row.name)
     where
       at : (t : Tree) → is_shaped Par (number_of q) (form_of t) ≡ true → IsProper t → Row_law t
       at (par first second) is proper = law first second
-      at (leaf l) is proper = false_true is
-      at (rev part) is proper = false_true is
-      at (seq first second) is proper = false_true is
-      at (loop k body) is proper = false_true is
+      at _ is proper = false_true is
 
   pub by_loop : row.conclusion ≡ Has (Is q) Loop → ((k : ℕ) (m : Tree) → 1 ≤ k → Row_law (loop (exactly k) m))
       → IsSoundRow row
@@ -159,11 +147,7 @@ module _ (q : Prop) (row : Rule) where
     where
       at : (t : Tree) → is_shaped Loop (number_of q) (form_of t) ≡ true → IsProper t → Row_law t
       at (loop (exactly k) body) is (some, proper) = law k body some
-      at (loop (at_most k) body) is proper = false_true is
-      at (leaf l) is proper = false_true is
-      at (rev part) is proper = false_true is
-      at (seq first second) is proper = false_true is
-      at (par first second) is proper = false_true is
+      at _ is proper = false_true is
 
   pub by_loop_1 : row.conclusion ≡ Has (Is q) LoopOne → ((m : Tree) → Row_law (loop (exactly 1) m)) → IsSoundRow row
   by_loop_1 is law = of_row row (Has (Is q) LoopOne) is (by_shape q LoopOne row.premises at row.name)
@@ -171,11 +155,7 @@ module _ (q : Prop) (row : Rule) where
       at : (t : Tree) → is_shaped LoopOne (number_of q) (form_of t) ≡ true → IsProper t → Row_law t
       at (loop (exactly k) body) is proper = subst (λ (j : ℕ). Row_law (loop (exactly j) body)) (sym (eqb-true k 1 is))
           (law body)
-      at (loop (at_most k) body) is proper = false_true is
-      at (leaf l) is proper = false_true is
-      at (rev part) is proper = false_true is
-      at (seq first second) is proper = false_true is
-      at (par first second) is proper = false_true is
+      at _ is proper = false_true is
 
   pub by_until : row.conclusion ≡ Has (Is q) Until → ((k : ℕ) (m : Tree) → 1 ≤ k → Row_law (loop (at_most k) m))
       → IsSoundRow row
@@ -183,11 +163,7 @@ module _ (q : Prop) (row : Rule) where
     where
       at : (t : Tree) → is_shaped Until (number_of q) (form_of t) ≡ true → IsProper t → Row_law t
       at (loop (at_most k) body) is (some, proper) = law k body some
-      at (loop (exactly k) body) is proper = false_true is
-      at (leaf l) is proper = false_true is
-      at (rev part) is proper = false_true is
-      at (seq first second) is proper = false_true is
-      at (par first second) is proper = false_true is
+      at _ is proper = false_true is
 
   pub by_until_1 : row.conclusion ≡ Has (Is q) UntilOne → ((m : Tree) → Row_law (loop (at_most 1) m)) → IsSoundRow row
   by_until_1 is law = of_row row (Has (Is q) UntilOne) is (by_shape q UntilOne row.premises at row.name)
@@ -195,11 +171,7 @@ module _ (q : Prop) (row : Rule) where
       at : (t : Tree) → is_shaped UntilOne (number_of q) (form_of t) ≡ true → IsProper t → Row_law t
       at (loop (at_most k) body) is proper = subst (λ (j : ℕ). Row_law (loop (at_most j) body)) (sym (eqb-true k 1 is))
           (law body)
-      at (loop (exactly k) body) is proper = false_true is
-      at (leaf l) is proper = false_true is
-      at (rev part) is proper = false_true is
-      at (seq first second) is proper = false_true is
-      at (par first second) is proper = false_true is
+      at _ is proper = false_true is
 
 -- ---- a property of the number k
 -- A row about `defers` of k.

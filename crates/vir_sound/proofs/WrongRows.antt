@@ -27,8 +27,8 @@ use Rattle.vir_mean.specs.Properties.{Holds, just}
 use Rattle.vir_mean.specs.Scores.{plurality_score, minimax_score}
 use Rattle.vir_mean.proofs.LoopLaws.{loop_of-few, loop_of-whole}
 use Rattle.vir_mean.proofs.MeaningLaws.{mean-split}
-use Rattle.vir_mean.proofs.PairScores.{minimax_is}
 use Rattle.vir_mean.proofs.Passing.{passing_has_an_order}
+use Rattle.vir_mean.proofs.StillScores.{first_lifted, lifted, lifted_scores, minimax_of, tied, tied_scores}
 use Rattle.vir_rules.specs.declared.row.Conclusion.TheVariants.{Has}
 use Rattle.vir_rules.specs.declared.row.Family.TheVariants.{Eliminating, Unscored, Winning}
 use Rattle.vir_rules.specs.declared.row.Need.TheVariants.{Of}
@@ -41,12 +41,13 @@ use Rattle.vir_sound.specs.Truth.{IsSoundRow}
 use Rattle.vir_sound.proofs.ElectingLaws.{ne_leaf}
 use Rattle.vir_sound.proofs.KeepingLaws.{nb_leaf}
 use Rattle.vir_mean.proofs.Leaders.{leaders}
-use Rattle.vir_sound.proofs.LiftLeaves.{dli_leaf, eliminated-deferred, max-deferred}
+use Rattle.vir_mean.proofs.DeferredMembers.{eliminated-deferred}
+use Rattle.vir_sound.proofs.LiftLeaves.{dli_leaf, max-deferred}
 use Rattle.vir_sound.proofs.WinnerLeaves.{cprog_leaf}
-use Rattle.vir_sound.proofs.SmallElections.{any_of_three, any_of_two, by_number, election, goes_of_three}
-use Rattle.vir_sound.proofs.SmallElections.{goes_three, lacks, line, lists_three}
-use Rattle.vir_sound.proofs.SmallElections.{one_two, one_two_three, three, three_one_two, three_two_one, two, two_one}
-use Rattle.vir_sound.proofs.SmallElections.{two_one_three}
+use Rattle.vir_mean.proofs.SmallElections.{any_of_three, any_of_two, by_number, election, goes_of_three}
+use Rattle.vir_mean.proofs.SmallElections.{goes_three, lacks, line, lists_three}
+use Rattle.vir_mean.proofs.SmallElections.{one_two, one_two_three, three, three_one_two, three_two_one, two, two_one}
+use Rattle.vir_mean.proofs.SmallElections.{two_one_three}
 
 abbrev nobody : Set
 nobody = set.empty
@@ -135,53 +136,21 @@ pub unsound_cprog_leaf : (name : List ℕ) → IsSoundRow (rule name (Has (Is Cp
 unsound_cprog_leaf name sound = not_cprog Min (sound (of Cprog (leaf (leaf'.Min Plurality))) [] tt refl tt)
 
 -- ---- the greatest of the least wins
-abbrev tied : List Entry
-tied = line 1 by_number ∷ line 1 (3 ∷ 2 ∷ 1 ∷ []) ∷ []
-
--- 1 is lifted past 2
-abbrev lifted : List Entry
-lifted = line 1 by_number ∷ line 1 (3 ∷ 1 ∷ 2 ∷ []) ∷ []
-
-first_lifted : Lifts 1 tied lifted
-first_lifted = (
-  record { agrees = record { weight = refl; others = refl }; nearer = omega arith },
-  (record { agrees = record { weight = refl; others = refl }; nearer = omega arith }, tt),
-)
-
 leads_three : (lines : List Entry) (s : ℕ → ℤ) → (s ≡ minimax_score three lines) → (x : ℕ) → set.contains three x ≡ true
     → set.contains (leaders s three) x ≡ not (list_any (λ y. int_lt (s x) (s y)) by_number)
 leads_three lines s is x inside =
     contains-retain three (λ y. not (is_passed s three y)) x ∙ ap (λ b. b && not (is_passed s three x)) inside
     ∙ ap not (any_of_three (λ y. int_lt (s x) (s y)))
 
-score_of : (lines : List Entry) (x : ℕ) → ℤ
-score_of lines x = minimax_score three lines x
-
-tied_scores : (score_of tied 1 ≡ pos 1) × (score_of tied 2 ≡ pos 1) × (score_of tied 3 ≡ pos 1)
-unfolding score_of
-tied_scores = (
-  minimax_is three tied 1 by_number lists_three,
-  minimax_is three tied 2 by_number lists_three,
-  minimax_is
-      three tied 3 by_number lists_three,
-)
-
-lifted_scores : (score_of lifted 1 ≡ pos 1) × (score_of lifted 2 ≡ pos 0) × (score_of lifted 3 ≡ pos 1)
-unfolding score_of
-lifted_scores = (
-  minimax_is three lifted 1 by_number lists_three,
-  minimax_is three lifted 2 by_number lists_three,
-  minimax_is three lifted 3 by_number lists_three,
-)
-
 -- whether one of three leads, by their scores
 abbrev leads : ℤ → ℤ → ℤ → ℤ → Bool
 leads score one other third = not (int_lt score one || (int_lt score other || (int_lt score third || false)))
 
-deferred_by : (lines : List Entry) (x : ℕ) (v one other third : ℤ) → set.contains three x ≡ true → score_of lines x ≡ v
-    → score_of lines 1 ≡ one → score_of lines 2 ≡ other → score_of lines 3 ≡ third →
+deferred_by : (lines : List Entry) (x : ℕ) (v one other third : ℤ) → set.contains three x ≡ true → minimax_of lines x
+    ≡ v
+    → minimax_of lines 1 ≡ one → minimax_of lines 2 ≡ other → minimax_of lines 3 ≡ third →
     set.contains (eliminator Max Minimax three lines).deferred x ≡ leads v one other third
-unfolding score_of
+unfolding minimax_of
 deferred_by lines x v one other third inside is is1 is2 is3 =
     ap (λ s. set.contains s x) (max-deferred (minimax_score three lines) three)
     ∙ leads_three lines (minimax_score three lines) refl x inside
@@ -190,9 +159,9 @@ deferred_by lines x v one other third inside is is1 is2 is3 =
 -- a lift of a leader makes another one fall, and a third one stay
 pub not_dimono : Holds Dimono (eliminator Max Minimax) → ⊥
 not_dimono holds =
-    let before = λ (x : ℕ) (is : score_of tied x ≡ pos 1) (inside : set.contains three x ≡ true).
+    let before = λ (x : ℕ) (is : minimax_of tied x ≡ pos 1) (inside : set.contains three x ≡ true).
     deferred_by tied x (pos 1) (pos 1) (pos 1) (pos 1) inside is tied_scores.0 tied_scores.1 tied_scores.2 in
-    let after = λ (x : ℕ) (v : ℤ) (is : score_of lifted x ≡ v) (inside : set.contains three x ≡ true).
+    let after = λ (x : ℕ) (v : ℤ) (is : minimax_of lifted x ≡ v) (inside : set.contains three x ≡ true).
     deferred_by lifted x v (pos 1) (pos 0) (pos 1) inside is lifted_scores.0 lifted_scores.1 lifted_scores.2 in
     elim (holds.1 three tied lifted 1 (election 3 tied (one_two_three, (three_two_one, tt)))
     (election 3 lifted (one_two_three, (three_one_two, tt)))

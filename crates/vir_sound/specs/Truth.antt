@@ -1,4 +1,5 @@
 -- What judgements say of rules, and which rules of the table are sound.
+-- (The program's promises don't stand on this file.)
 use Rattle.std.specs.Prelude.{◌≡◌, ℕ, ◌≤◌, List, [], ◌∷◌, Some}
 use Rattle.vir_term.specs.declared.leaf.Leaf.{Leaf}
 use Rattle.vir_term.specs.declared.leaf.Leaf.TheVariants.{PassFirst, DropFirst}

@@ -14,7 +14,7 @@ use Rattle.vir_synth.specs.declared.form.Joint.{Joint}
 use Rattle.vir_synth.specs.declared.table.Found.{Found}
 use Rattle.vir_synth.specs.declared.table.Table.{Table}
 use Rattle.vir_synth.specs.Terms.{joins, splits, compositions, next_terms}
-use Rattle.vir_synth.specs.Tables.{of_two, terms_of, IsSigned, Holds, Adds}
+use Rattle.vir_synth.specs.Tables.{of_two, terms_of, IsSigned, HoldsFirsts, Adds}
 use Rattle.vir_synth.specs.Searches.{kept_at, all_kept, AreSigned, IsKept}
 use Rattle.vir_synth.proofs.Tabling.{adds_both}
 
@@ -106,7 +106,7 @@ compositions_offered numbers sizes last a b c d e l is revs loops seqs pars =
 
 -- a table of a new size
 pub starts : (numbers : List ℕ) (leaves : List Leaf) (table : Table) (sizes : List (Vec Found Global))
-    → IsKept numbers leaves table.seen sizes → table.found.items ≡ [] → Holds numbers (all_kept sizes) [] table
+    → IsKept numbers leaves table.seen sizes → table.found.items ≡ [] → HoldsFirsts numbers (all_kept sizes) [] table
 starts numbers leaves table sizes h e = record {
   known = λ s seen.
       (let k = h.known s seen
@@ -131,8 +131,9 @@ next_of_some leaves at (suc n) l = refl
 pub next_held : (numbers : List ℕ) (leaves : List Leaf) (sizes : List (Vec Found Global)) (xs : List Tree)
     (old new : Table) → next_terms leaves (kept_at sizes) (length sizes) ≡ xs → IsKept numbers leaves old.seen sizes
     → old.found.items ≡ [] → Adds numbers xs old new →
-    Holds numbers (all_kept sizes) (next_terms leaves (kept_at sizes) (length sizes)) new
-next_held numbers leaves sizes xs old new e h none adds = subst (λ ts. Holds numbers (all_kept sizes) ts new) (sym e)
+    HoldsFirsts numbers (all_kept sizes) (next_terms leaves (kept_at sizes) (length sizes)) new
+next_held numbers leaves sizes xs old new e h none adds = subst (λ ts. HoldsFirsts numbers (all_kept sizes) ts new)
+    (sym e)
     (adds (all_kept sizes) [] (starts numbers leaves old sizes h none))
 
 -- the kept terms of a size are signed

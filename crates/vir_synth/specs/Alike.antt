@@ -1,4 +1,5 @@
 -- Terms that no composition and no wanted property tells apart, and lists that are alike in what is found first.
+-- (The program's promises don't stand on this file.)
 use Rattle.std.specs.Prelude.{◌≡◌, ℕ, ◌<◌, Bool, List, None, find}
 use Rattle.vir_term.specs.Tree.{Tree, rev, seq, par, loop, exactly}
 use Rattle.vir_derive.specs.Heads.{head}
@@ -32,7 +33,6 @@ abbrev pub FindsNone : (Tree → Bool) → (ℕ → List Tree) → ℕ → Type 
 FindsNone p at n = (i : ℕ) → i < n → find p (at i) ≡ None
 
 -- Where a test that asks for signatures alone finds nothing in smaller terms, it finds first in the terms of this size
--- what it finds
--- first in the kept ones.
+-- what it finds first in the kept ones.
 abbrev pub IsServed : (Tree → Tree → Type 0) → (ℕ → List Tree) → (ℕ → List Tree) → ℕ → Type 0
 IsServed Same at kept n = (p : Tree → Bool) → Respects Same p → FindsNone p at n → find p (at n) ≡ find p (kept n)

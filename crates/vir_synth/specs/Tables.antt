@@ -1,4 +1,5 @@
 -- What the search keeps: of each signature the first term.
+-- (The program's promises don't stand on this file.)
 use Rattle.std.specs.Prelude.{◌≡◌, ℕ, true, List, ◌++◌, map, All, Contains}
 use Rattle.indexmap.specs.IndexSet.{contains}
 use Rattle.vir_term.specs.Tree.{Tree, tree, rev, seq, par, loop, exactly}
@@ -31,12 +32,10 @@ terms_of founds = map (λ f. tree f.term) founds
 abbrev pub IsSigned : List ℕ → Found → Type 0
 IsSigned numbers f = IsSignatureOf numbers f.signature (tree f.term)
 
--- What a table holds of the terms offered to it, where these terms were kept before: each signature that was seen is
--- that of a term
--- that is kept, and a test that asks for signatures alone and passes no earlier term finds first in the kept terms what
--- it finds first
--- in the offered ones.
-pub record Holds (numbers : List ℕ) (before offered : List Tree) (table : Table) : Type 0 where
+-- A table holds the first terms of those offered to it, where these terms were kept before: each signature that was
+-- seen is that of a term that is kept, and a test that asks for signatures alone and passes no earlier term finds first
+-- in the kept terms what it finds first in the offered ones.
+pub record HoldsFirsts (numbers : List ℕ) (before offered : List Tree) (table : Table) : Type 0 where
   pub known : (s : Signature) → contains are_equal table.seen s ≡ true → (t : Tree)
       × Contains (before ++ terms_of table.found.items) t × IsSignatureOf numbers s t
   pub signed : All (IsSigned numbers) table.found.items
@@ -44,5 +43,6 @@ pub record Holds (numbers : List ℕ) (before offered : List Tree) (table : Tabl
 
 -- A table was offered some more terms.
 abbrev pub Adds : List ℕ → List Tree → Table → Table → Type 0
-Adds numbers terms old new = (before offered : List Tree) → Holds numbers before offered old → Holds numbers before
+Adds numbers terms old new = (before offered : List Tree) → HoldsFirsts numbers before offered old → HoldsFirsts
+    numbers before
     (offered ++ terms) new

@@ -9,8 +9,7 @@ joins op [] seconds = []
 joins op (first ∷ firsts) seconds = map (op first) seconds ++ joins op firsts seconds
 
 -- The compositions of a first and a second term, by the size of the first one, which begins with `left`, where that of
--- the second
--- one is `right` then. `at` has the terms of each size.
+-- the second one is `right` then. `at` has the terms of each size.
 unfoldable pub splits : (Tree → Tree → Tree) → (ℕ → List Tree) → ℕ → ℕ → List Tree
 splits op at left zero = []
 splits op at left (suc right) = joins op (at left) (at (suc right)) ++ splits op at (suc left) right

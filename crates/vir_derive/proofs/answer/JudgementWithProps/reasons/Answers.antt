@@ -1,5 +1,5 @@
 use Rattle.std.proofs.Common.{◌≡◌, ◌+◌, sym, ◌∙◌, ap, subst, arith}
-use Rattle.vir_rules.specs.Reasons.{AreReasonsUpTo, reasons_seen}
+use Rattle.vir_rules.specs.Reasons.{AreReasonsBy, fitting, reasons_seen}
 use Rattle.vir_rules.specs.declared.rule_id.TheConstants.RuleId.{COUNT}
 use Rattle.vir_derive.specs.Judged.{claim_of}
 use Rattle.vir_derive.proofs.Answering.{reasons_of_none, reasons_without, reasons_with, all_reasons}
@@ -20,7 +20,8 @@ loop-i-preserved c =
           (ap reasons_seen w.why-is ∙ w.in_ok-push.ensures.ok) c.reason.ensures.unfit c.reason.ensures.fit
           c.loop-i.invariant
       | in_default-reason w ↦
-          subst (λ why. AreReasonsUpTo (c.loop-i.i + 1) (claim_of c.args.self) (reasons_seen why)) (sym w.why-is)
+          subst (λ why. AreReasonsBy (claim_of c.args.self) (fitting (c.loop-i.i + 1) (claim_of c.args.self))
+          (reasons_seen why)) (sym w.why-is)
           (reasons_without c.loop-i.i c.in-Some.rule (claim_of c.args.self) (reasons_seen c.loop-i.why) c.reason.result
           rule c.requires.underivable w.in_default-reason.is c.reason.ensures.fit c.loop-i.invariant)
     ]
