@@ -1,0 +1,14 @@
+pub mod Meant
+pub mod Told
+pub mod Rounds
+pub mod Listed
+pub mod ToldScores
+pub mod Led
+pub mod Accounting
+pub mod TrueVisits
+pub mod ReadTexts
+pub mod ReadVisits
+pub mod LegibleVisits
+pub mod Winner
+pub mod VisitedCalls
+pub mod Explaining

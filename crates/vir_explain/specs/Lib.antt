@@ -1,0 +1,13 @@
+pub mod Endings
+pub mod Visits
+pub mod Accounts
+pub mod VisitedModules
+pub mod VisitTexts
+pub mod TextLimits
+pub mod Legible
+pub mod Explained
+pub mod PairTexts
+pub use Rattle.vir_altset.specs.Sets
+pub use Rattle.vir_profile.specs.SocFiles
+pub use Rattle.vir_mean.specs.Meaning
+pub use Rattle.vir_report.specs.ResultText
