@@ -1,5 +1,5 @@
 -- A rule file and a manifest, and then what they come to.
-use Rattle.std.proofs.Common.{◌≡◌, ℕ, ◌<◌, ◌≤◌, Bool, List, Option, Result, Ok, Err, ap, sym, subst, ◌∙◌, arith}
+use Rattle.std.proofs.Common.{◌≡◌, ℕ, ◌<◌, List, Option, Result, Ok, Err, ap, sym, subst, ◌∙◌, arith}
 use Rattle.vir_course.specs.Courses.{Course, and_then}
 use Rattle.vir_course.specs.Wordings.{Tells, Wording}
 use Rattle.vir_course.specs.declared.answer.Answer.{Answer}
@@ -9,10 +9,9 @@ use Rattle.vir_files.specs.Files.{Kind, read_as, rules}
 use Rattle.vir_files.specs.Performs.{Performs}
 use Rattle.vir_files.specs.Readings.{rule_at}
 use Rattle.vir_files.proofs.RuleLemmas.{SeesTree}
-use Rattle.vir_files.proofs.ThenLemmas.{IsBelow, IsFrom, performs_stops, performs_then, performs_weaker}
+use Rattle.vir_files.proofs.ThenLemmas.{IsBelow, IsFrom, performs_stops, performs_then}
 use Rattle.vir_machine.specs.Runs.{BenchView, served_by}
-use Rattle.vir_outside.specs.Faults.{Rose}
-use Rattle.vir_outside.specs.Shelf.{Files}
+use Rattle.vir_outside.specs.Shelf.{ShelfView}
 use Rattle.vir_term.specs.declared.term.Term.{Term}
 use Rattle.vir_term.specs.declared.leaf.LeafKind.{LeafKind}
 use Rattle.vir_term.specs.Tree.{Tree, tree}
@@ -42,75 +41,64 @@ behind_rule kinds manifest term = λ c d same.
     (λ names. batch_course kinds c term names)) one
     ∙ ap (λ (n : List (List ℕ) → Course Wording). and_then (manifest_at d 1 manifest) n) next
 
-module _ (rule manifest : List ℕ) (files : Option Files) (bench : BenchView) (untouched : Type 0) where
+module _ {S : Type 0} (rule manifest : List ℕ) (seen : S → ShelfView) (bench : BenchView) where
   -- the rule file stops all
-  pub rule_stops : (rose : Type 0) (selected : Bool) (rest : Option (List ℕ)) (reason : Stop)
-      → Performs (λ (contents : Contents). rule_at contents 0 rule) SeesTree files rose ⊥ bench bench selected rest
-      (Err reason)
-      → Performs (λ contents. batch_of_files_course (served_by bench) contents rule manifest) Tells files rose untouched
-      bench bench selected rest (Err reason)
-  rule_stops rose selected rest reason r =
-      performs_weaker (λ contents. batch_of_files_course (served_by bench) contents rule manifest) Tells files rose ⊥
-      untouched bench bench selected rest (Err reason) (λ never. absurd never)
-      (performs_stops (λ contents. rule_at contents 0 rule) SeesTree Tells files rose ⊥ bench bench selected rest
+  pub rule_stops : (before after : S) (reason : Stop)
+      → Performs (λ (contents : Contents). rule_at contents 0 rule) SeesTree seen before after bench bench (Err reason)
+      → Performs (λ contents. batch_of_files_course (served_by bench) contents rule manifest) Tells seen before after
+      bench bench (Err reason)
+  rule_stops before after reason r =
+      performs_stops (λ contents. rule_at contents 0 rule) SeesTree Tells seen before after bench bench
       (λ contents term. and_then (manifest_at contents 1 manifest)
-      (λ names. batch_course (served_by bench) contents term names)) reason r)
+      (λ names. batch_course (served_by bench) contents term names)) reason r
 
-  module _ (files_ruled : Option Files) (same_ruled : files_ruled ≡ files) (before ruled listed : ℕ)
-      (later_ruled : before ≤ ruled) (selected_ruled : Bool) (rest_ruled : Option (List ℕ)) (x : Term)
-      (r : Performs (λ (contents : Contents). rule_at contents 0 rule) SeesTree files (Rose before ruled) ⊥ bench bench
-      selected_ruled rest_ruled (Ok x)) where
-    -- what is performed behind the rule
-    behind : (after : ℕ) → ruled ≤ after → (new : BenchView) (selected : Bool) (rest : Option (List ℕ))
-        (answer : Result Answer Stop)
-        → ((term : Tree) → SeesTree term x
-        → Performs (λ contents. and_then (manifest_at contents 1 manifest)
-        (λ names. batch_course (served_by bench) contents term names)) Tells files_ruled (Rose ruled after) ⊥ bench new
-        selected rest answer)
-        → Performs (λ contents. batch_of_files_course (served_by bench) contents rule manifest) Tells files
-        (Rose before after) untouched bench new selected rest answer
-    behind after later new selected rest answer next =
-        performs_then 1 (λ contents. rule_at contents 0 rule)
-        (λ term contents. and_then (manifest_at contents 1 manifest)
-        (λ names. batch_course (served_by bench) contents term names)) SeesTree Tells
-        (file_below rules rule 0 1 (let is : 0 < 1 = omega arith in is))
-        (λ term. behind_rule (served_by bench) manifest term) files files_ruled same_ruled (Rose before ruled)
-        (Rose ruled after) (Rose before after) ⊥ ⊥ untouched (λ rose. omega arith) (λ is never. absurd never) bench
-        bench new selected_ruled selected rest_ruled rest (λ never. absurd never) x answer r next
+  module _ (before ruled : S) (x : Term)
+      (r : Performs (λ (contents : Contents). rule_at contents 0 rule) SeesTree seen before ruled bench bench (Ok x))
+    where
+      -- what is performed behind the rule
+      behind : (after : S) (new : BenchView) (answer : Result Answer Stop)
+          → ((term : Tree) → SeesTree term x
+          → Performs (λ contents. and_then (manifest_at contents 1 manifest)
+          (λ names. batch_course (served_by bench) contents term names)) Tells seen ruled after bench new answer)
+          → Performs (λ contents. batch_of_files_course (served_by bench) contents rule manifest) Tells seen before
+          after
+          bench new answer
+      behind after new answer next =
+          performs_then 1 (λ contents. rule_at contents 0 rule)
+          (λ term contents. and_then (manifest_at contents 1 manifest)
+          (λ names. batch_course (served_by bench) contents term names)) SeesTree Tells
+          (file_below rules rule 0 1 (let is : 0 < 1 = omega arith in is))
+          (λ term. behind_rule (served_by bench) manifest term) seen before ruled after bench bench new x answer r next
 
-    -- the manifest stops all
-    pub manifest_stops : ruled ≤ listed → (selected : Bool) (rest : Option (List ℕ)) (reason : Stop)
-        → Performs (λ (contents : Contents). manifest_at contents 1 manifest) SeesNames files_ruled (Rose ruled listed)
-        ⊥ bench bench selected rest (Err reason)
-        → Performs (λ contents. batch_of_files_course (served_by bench) contents rule manifest) Tells files
-        (Rose before listed) untouched bench bench selected rest (Err reason)
-    manifest_stops later selected rest reason m =
-        behind listed later bench selected rest (Err reason) (λ term is.
-        performs_stops (λ contents. manifest_at contents 1 manifest) SeesNames Tells files_ruled (Rose ruled listed) ⊥
-        bench bench selected rest (λ contents names. batch_course (served_by bench) contents term names) reason m)
+      -- the manifest stops all
+      pub manifest_stops : (listed : S) (reason : Stop)
+          → Performs (λ (contents : Contents). manifest_at contents 1 manifest) SeesNames seen ruled listed bench bench
+          (Err reason)
+          → Performs (λ contents. batch_of_files_course (served_by bench) contents rule manifest) Tells seen before
+          listed
+          bench bench (Err reason)
+      manifest_stops listed reason m =
+          behind listed bench (Err reason) (λ term is.
+          performs_stops (λ contents. manifest_at contents 1 manifest) SeesNames Tells seen ruled listed bench bench
+          (λ contents names. batch_course (served_by bench) contents term names) reason m)
 
-    -- the profiles of the manifest are counted
-    pub files_answer : (files_listed : Option Files) → files_listed ≡ files_ruled → ruled ≤ listed → (after : ℕ)
-        → listed ≤ after → (stays : Type 0) (new : BenchView) (selected_listed selected : Bool)
-        (rest_listed rest : Option (List ℕ)) → (stays → (selected_listed ≡ selected) × (rest_listed ≡ rest))
-        → (names : List (List ℕ)) (answer : Result Answer Stop)
-        → Performs (λ (contents : Contents). manifest_at contents 1 manifest) SeesNames files_ruled (Rose ruled listed)
-        ⊥ bench bench selected_listed rest_listed (Ok names)
-        → Performs (λ contents. batch_course (served_by bench) contents (tree x) names) Tells files_listed
-        (Rose listed after) stays bench new selected rest answer
-        → Performs (λ contents. batch_of_files_course (served_by bench) contents rule manifest) Tells files
-        (Rose before after) untouched bench new selected rest answer
-    files_answer files_listed same later after later_after stays new selected_listed selected rest_listed rest
-        same_shelf names answer m b =
-        let later_all : ruled ≤ after = omega arith in
-        behind after later_all new selected rest answer (λ term is.
-        performs_then 2 (λ contents. manifest_at contents 1 manifest)
-        (λ ns contents. batch_course (served_by bench) contents term ns) SeesNames Tells
-        (file_below manifests manifest 1 2 (let below : 1 < 2 = omega arith in below))
-        (λ ns. batch_from (served_by bench) term ns) files_ruled files_listed same (Rose ruled listed)
-        (Rose listed after) (Rose ruled after) ⊥ stays ⊥ (λ rose. omega arith) (λ never s. absurd never) bench bench new
-        selected_listed selected rest_listed rest same_shelf names answer m (λ ns are.
-        subst (λ (t : Tree). Performs (λ contents. batch_course (served_by bench) contents t ns) Tells files_listed
-        (Rose listed after) stays bench new selected rest answer) (sym is)
-        (subst (λ (n : List (List ℕ)). Performs (λ contents. batch_course (served_by bench) contents (tree x) n) Tells
-        files_listed (Rose listed after) stays bench new selected rest answer) (sym are) b)))
+      -- the profiles of the manifest are counted
+      pub files_answer : (listed after : S) (new : BenchView) (names : List (List ℕ)) (answer : Result Answer Stop)
+          → Performs (λ (contents : Contents). manifest_at contents 1 manifest) SeesNames seen ruled listed bench bench
+          (Ok names)
+          → Performs (λ contents. batch_course (served_by bench) contents (tree x) names) Tells seen listed after bench
+          new answer
+          → Performs (λ contents. batch_of_files_course (served_by bench) contents rule manifest) Tells seen before
+          after
+          bench new answer
+      files_answer listed after new names answer m b =
+          behind after new answer (λ term is.
+          performs_then 2 (λ contents. manifest_at contents 1 manifest)
+          (λ ns contents. batch_course (served_by bench) contents term ns) SeesNames Tells
+          (file_below manifests manifest 1 2 (let below : 1 < 2 = omega arith in below))
+          (λ ns. batch_from (served_by bench) term ns) seen ruled listed after bench bench new names answer m (λ ns are.
+          subst (λ (t : Tree). Performs (λ contents. batch_course (served_by bench) contents t ns) Tells seen listed
+          after
+          bench new answer) (sym is)
+          (subst (λ (n : List (List ℕ)). Performs (λ contents. batch_course (served_by bench) contents (tree x) n) Tells
+          seen listed after bench new answer) (sym are) b)))

@@ -1,5 +1,5 @@
 -- The reading of a profile, whose fault is a value.
-use Rattle.std.proofs.Common.{◌≡◌, ℕ, List, Option, None, Some, Bool, Result, Ok, Err, refl, ap, ◌∙◌, inl, inr}
+use Rattle.std.proofs.Common.{◌≡◌, ℕ, List, Option, None, Some, Result, Ok, Err, refl, ap, ◌∙◌, inl, inr}
 use Rattle.vir_course.specs.Courses.{Follows}
 use Rattle.vir_course.specs.Steps.{Step, last_read}
 use Rattle.vir_course.specs.declared.stop.Stop.{Stop}
@@ -9,9 +9,9 @@ use Rattle.vir_files.specs.Files.{accept, judge, profiles, read_as}
 use Rattle.vir_files.specs.Performs.{Performs}
 use Rattle.vir_files.specs.Readings.{profile_at}
 use Rattle.vir_files.proofs.FedLemmas.{SeesFile}
-use Rattle.vir_files.proofs.ThenLemmas.{left_same}
+use Rattle.vir_files.proofs.PerformLemmas.{left_behind}
 use Rattle.vir_machine.specs.Runs.{BenchView}
-use Rattle.vir_outside.specs.Shelf.{Files}
+use Rattle.vir_outside.specs.Shelf.{Faulted, ShelfView}
 use Rattle.vir_profile.specs.SocFiles.{File}
 use Rattle.vir_soc.specs.Soc.{soc}
 use Rattle.vir_soc.specs.declared.fault.SocFault.{SocFault}
@@ -71,18 +71,20 @@ fails_so : (answer : Result File Stop) → answer ≡ Err stop.ReadFault → fau
 fails_so answer is = ap fault_as_value is
 
 -- The profile is asked for at any place, and its fault is a value.
-pub performs_said : (name : List ℕ) (files : Option Files) (rose : Type 0) (bench : BenchView) (selected : Bool)
-    (rest : Option (List ℕ)) (answer : Result File Stop) (place : ℕ)
-    → Performs (λ (contents : Contents). profile_at contents 0 name) SeesFile files rose ⊥ bench bench selected rest
-    answer
-    → Performs (λ (contents : Contents). read_as profiles_or_faults name (contents place name)) SeesSaid files rose ⊥
-    bench bench selected rest (fault_as_value answer)
-performs_said name files rose bench selected rest answer place r =
+pub performs_said : {S : Type 0} (name : List ℕ) (seen : S → ShelfView) (before after : S) (bench : BenchView)
+    (answer : Result File Stop) (place : ℕ)
+    → Performs (λ (contents : Contents). profile_at contents 0 name) SeesFile seen before after bench bench answer
+    → Performs (λ (contents : Contents). read_as profiles_or_faults name (contents place name)) SeesSaid seen before
+    after bench bench (fault_as_value answer)
+performs_said name seen before after bench answer place r =
     record {
       contents = λ at name. r.contents 0 name;
       are_contents = λ at name. r.are_contents 0 name;
       made = r.made;
-      follows = said_follows rose name (r.contents 0 name) r.made answer r.follows;
+      follows =
+          said_follows (Faulted (seen before) (seen after)) name (r.contents 0 name) r.made answer r.follows;
       bench = r.bench;
-      left = left_same files (last_read None r.made) ⊥ _ _ selected rest (fails_so answer) r.left;
+      asked = r.asked;
+      left = left_behind seen before after (last_read None r.made) _ _ (fails_so answer) r.left;
+      later = r.later;
     }

@@ -1,4 +1,5 @@
 -- How far the text of a batch has come.
+-- (The program's promises don't stand on this file.)
 use Rattle.std.specs.Prelude.{◌≡◌, ℕ, ◌+◌, ◌≤◌, List, ◌++◌, count_by, if◌then◌else◌, length}
 use Rattle.std.specs.List.{flat_map}
 use Rattle.vir_term.specs.Tree.{Tree}

@@ -8,7 +8,6 @@ ghost use Rattle.vir_course.specs.Works.{Works};
 ghost use Rattle.vir_files.specs.Performs.{Performs};
 ghost use Rattle.vir_machine.specs.Runs.{after_run, seen, served_by};
 ghost use Rattle.vir_machine.specs.Uses.{all_served};
-ghost use Rattle.vir_outside.specs.Faults.{Rose};
 ghost use Rattle.vir_term.specs.Limits.{IsWithinLimits};
 ghost use Rattle.vir_term.specs.Tree.{tree};
 
@@ -95,13 +94,10 @@ fn add_profile<S: Shelf>(
     ensures performs { (place : ℕ) → Performs
         (λ contents. profile_counted contents place (tree compiled.old.rule.now) name.now)
         (λ one done. IsLineAdded (tree compiled.old.rule.now) one lines.old lines.new)
-        (S.files shelf.old) (Rose (S.faults shelf.old) (S.faults shelf.new)) ⊥
-        (seen kinds made bench.old) (seen kinds made bench.new) (S.selected shelf.new) (S.rest shelf.new) result }
+        S.seen shelf.old shelf.new (seen kinds made bench.old) (seen kinds made bench.new) result }
     ensures more { OnOk result (IsOneMore lines.old lines.new) }
     ensures served { OnOk result (served_by (seen kinds made bench.new) ≡ served_by (seen kinds made bench.old)) }
     ensures same { compiled.new.rule.now ≡ compiled.old.rule.now }
-    ensures files { S.files shelf.new ≡ S.files shelf.old }
-    ensures later { S.faults shelf.old ≤ S.faults shelf.new }
 {
     match profile_or_fault(alloc, shelf, name) {
         Ok(said) => add_said(alloc, bench, compiled, name, said, lines),
@@ -118,12 +114,9 @@ fn lines_of_all<S: Shelf>(
     names: &FileNames,
 ) -> Result<Lines, Stop>
     requires { all_served (served_by (seen kinds made bench.old)) (tree compiled.old.rule.now) ≡ true }
-    ensures performs { Performs (λ contents. all_counted contents 2 (tree compiled.old.rule.now) names.now)
+    ensures { Performs (λ contents. all_counted contents 2 (tree compiled.old.rule.now) names.now)
         (AreLinesOf (tree compiled.old.rule.now))
-        (S.files shelf.old) (Rose (S.faults shelf.old) (S.faults shelf.new)) (shelf.new ≡ shelf.old)
-        (seen kinds made bench.old) (seen kinds made bench.new) (S.selected shelf.new) (S.rest shelf.new) result }
-    ensures files { S.files shelf.new ≡ S.files shelf.old }
-    ensures later { S.faults shelf.old ≤ S.faults shelf.new }
+        S.seen shelf.old shelf.new (seen kinds made bench.old) (seen kinds made bench.new) result }
 {
     let mut lines = Lines::new(alloc);
     for i in 0..names.len() {
@@ -146,11 +139,8 @@ fn text_of_all<S: Shelf>(
     names: &FileNames,
 ) -> Result<Answer, Stop>
     requires { all_served (served_by (seen kinds made bench.old)) (tree compiled.old.rule.now) ≡ true }
-    ensures performs { Performs (λ contents. served_course contents (tree compiled.old.rule.now) names.now) Tells
-        (S.files shelf.old) (Rose (S.faults shelf.old) (S.faults shelf.new)) (shelf.new ≡ shelf.old)
-        (seen kinds made bench.old) (seen kinds made bench.new) (S.selected shelf.new) (S.rest shelf.new) result }
-    ensures files { S.files shelf.new ≡ S.files shelf.old }
-    ensures later { S.faults shelf.old ≤ S.faults shelf.new }
+    ensures { Performs (λ contents. served_course contents (tree compiled.old.rule.now) names.now) Tells
+        S.seen shelf.old shelf.new (seen kinds made bench.old) (seen kinds made bench.new) result }
 {
     let lines = lines_of_all(alloc, shelf, bench, compiled, names)?;
     Ok(Answer::Text(lines.finish()?))
@@ -167,12 +157,9 @@ pub fn batch<S: Shelf>(
     names: &FileNames,
 ) -> Result<Answer, Stop>
     requires { IsWithinLimits (tree rule.now) }
-    ensures performs { Performs
+    ensures { Performs
         (λ contents. batch_course (served_by (seen kinds made bench.old)) contents (tree rule.now) names.now) Tells
-        (S.files shelf.old) (Rose (S.faults shelf.old) (S.faults shelf.new)) (shelf.new ≡ shelf.old)
-        (seen kinds made bench.old) (seen kinds made bench.new) (S.selected shelf.new) (S.rest shelf.new) result }
-    ensures files { S.files shelf.new ≡ S.files shelf.old }
-    ensures later { S.faults shelf.old ≤ S.faults shelf.new }
+        S.seen shelf.old shelf.new (seen kinds made bench.old) (seen kinds made bench.new) result }
 {
     if let Some(leaf) = bench.first_unserved(rule) {
         return Err(Stop::NoCounter(LeafText::of(alloc, leaf)?));

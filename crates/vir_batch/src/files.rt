@@ -1,10 +1,9 @@
 // A rule file and a manifest, and what they come to.
-ghost use Rattle.std.specs.Prelude.{◌≡◌, ◌≤◌};
+ghost use Rattle.std.specs.Prelude.{◌≡◌};
 ghost use Rattle.vir_batch.specs.Batches.{batch_of_files_course};
 ghost use Rattle.vir_course.specs.Wordings.{Tells};
 ghost use Rattle.vir_files.specs.Performs.{Performs};
 ghost use Rattle.vir_machine.specs.Runs.{seen, served_by};
-ghost use Rattle.vir_outside.specs.Faults.{Rose};
 
 use crate::batches::batch;
 use crate::manifest_file::manifest_file;
@@ -23,12 +22,9 @@ pub fn batch_of_files<S: Shelf>(
     rule_name: &str,
     manifest_name: &str,
 ) -> Result<Answer, Stop>
-    ensures performs { Performs (λ contents. batch_of_files_course (served_by (seen kinds made bench.old)) contents
+    ensures { Performs (λ contents. batch_of_files_course (served_by (seen kinds made bench.old)) contents
         rule_name.now manifest_name.now) Tells
-        (S.files shelf.old) (Rose (S.faults shelf.old) (S.faults shelf.new)) (shelf.new ≡ shelf.old)
-        (seen kinds made bench.old) (seen kinds made bench.new) (S.selected shelf.new) (S.rest shelf.new) result }
-    ensures files { S.files shelf.new ≡ S.files shelf.old }
-    ensures later { S.faults shelf.old ≤ S.faults shelf.new }
+        S.seen shelf.old shelf.new (seen kinds made bench.old) (seen kinds made bench.new) result }
 {
     let rule = rule(alloc, shelf, rule_name)?;
     let names = manifest_file(alloc, shelf, manifest_name)?;

@@ -1,11 +1,10 @@
 // A manifest, read whole and judged.
-ghost use Rattle.std.specs.Prelude.{◌≡◌, ◌≤◌, ℕ};
+ghost use Rattle.std.specs.Prelude.{◌≡◌, ℕ};
 ghost use Rattle.vir_batch.specs.Batches.{manifest_at};
 ghost use Rattle.vir_batch.specs.Manifest.{manifest_of};
 ghost use Rattle.vir_files.specs.Judges.{Judges};
-ghost use Rattle.vir_files.specs.Performs.{Performs};
+ghost use Rattle.vir_files.specs.Performs.{AsksFirst, Performs};
 ghost use Rattle.vir_machine.specs.Runs.{BenchView};
-ghost use Rattle.vir_outside.specs.Faults.{Rose};
 
 use crate::file_names::FileNames;
 use crate::manifest::{MANIFEST_LIMIT, read_manifest};
@@ -30,10 +29,8 @@ fn judge(alloc: Global, text: &[u8]) -> Result<FileNames, Stop>
 pub fn manifest_file<S: Shelf>(alloc: Global, shelf: &mut S, name: &str) -> Result<FileNames, Stop>
     ensures performs { (place : ℕ) (bench : BenchView)
         → Performs (λ contents. manifest_at contents place name.now) (λ names x. names ≡ x)
-        (S.files shelf.old) (Rose (S.faults shelf.old) (S.faults shelf.new)) ⊥ bench bench
-        (S.selected shelf.new) (S.rest shelf.new) result }
-    ensures files { S.files shelf.new ≡ S.files shelf.old }
-    ensures later { S.faults shelf.old ≤ S.faults shelf.new }
+        S.seen shelf.old shelf.new bench bench result }
+    ensures asks { AsksFirst (S.seen shelf.old) (S.seen shelf.new) name.now }
 {
     let text = text(alloc, shelf, name, MANIFEST_LIMIT)?;
     judge(alloc, &text)

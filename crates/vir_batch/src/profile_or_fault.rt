@@ -1,10 +1,10 @@
 // A profile, or its first fault.
-ghost use Rattle.std.specs.Prelude.{◌≡◌, ◌≤◌, ℕ};
+ghost use Rattle.std.specs.Prelude.{◌≡◌, ℕ};
 ghost use Rattle.vir_batch.specs.Kinds.{fault_as_value, profiles_or_faults};
+ghost use Rattle.vir_files.specs.Feeding.{StopsAtFault};
 ghost use Rattle.vir_files.specs.Files.{read_as};
-ghost use Rattle.vir_files.specs.Performs.{Performs};
+ghost use Rattle.vir_files.specs.Performs.{AsksFirst, Performs};
 ghost use Rattle.vir_machine.specs.Runs.{BenchView};
-ghost use Rattle.vir_outside.specs.Faults.{Rose};
 
 use std::alloc::Global;
 use vir_course::Stop;
@@ -24,7 +24,8 @@ fn fault_as_value(answer: Result<SocFile, Stop>) -> Result<Result<SocFile, SocFa
     }
 }
 
-/// The profile of a file with its names, or its first fault, which is no reason to stop. No bench is touched.
+/// The profile of a file with its names, or its first fault, which is no reason to stop. Behind the piece that settles
+/// that, nothing is read. No bench is touched.
 pub fn profile_or_fault<S: Shelf>(
     alloc: Global,
     shelf: &mut S,
@@ -32,10 +33,9 @@ pub fn profile_or_fault<S: Shelf>(
 ) -> Result<Result<SocFile, SocFault>, Stop>
     ensures performs { (place : ℕ) (bench : BenchView)
         → Performs (λ contents. read_as profiles_or_faults name.now (contents place name.now)) (λ said x. said ≡ x)
-        (S.files shelf.old) (Rose (S.faults shelf.old) (S.faults shelf.new)) ⊥ bench bench
-        (S.selected shelf.new) (S.rest shelf.new) result }
-    ensures files { S.files shelf.new ≡ S.files shelf.old }
-    ensures later { S.faults shelf.old ≤ S.faults shelf.new }
+        S.seen shelf.old shelf.new bench bench result }
+    ensures asks { AsksFirst (S.seen shelf.old) (S.seen shelf.new) name.now }
+    ensures stops { StopsAtFault (S.seen shelf.new) name.now }
 {
     fault_as_value(profile(alloc, shelf, name))
 }

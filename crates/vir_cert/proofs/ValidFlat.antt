@@ -22,7 +22,7 @@ use Rattle.vir_rules.specs.declared.row.Pairing.TheVariants.{PassDrop, DropPass,
 use Rattle.vir_rules.specs.declared.row.Conclusion.{Conclusion}
 use Rattle.vir_rules.specs.declared.row.Conclusion.TheVariants.{Has, Apart}
 use Rattle.vir_rules.specs.declared.row.Part.{Part}
-use Rattle.vir_rules.specs.declared.row.Part.TheVariants.{M, N, T}
+use Rattle.vir_rules.specs.declared.row.Part.TheVariants.{M, N, T, U}
 use Rattle.vir_rules.specs.declared.row.Need.{Need}
 use Rattle.vir_rules.specs.declared.row.Need.TheVariants as need
 use Rattle.vir_rules.specs.Claims.{Claim, of, disj}
@@ -71,18 +71,19 @@ abbrev is_inner : Part → Bool
 is_inner M = true
 is_inner N = true
 is_inner T = false
+is_inner U = false
 
 -- whether it stands for the first part
 abbrev is_first : Part → Bool
 is_first M = true
 is_first N = false
 is_first T = false
+is_first U = false
 
--- whether it stands for the term, or in a pairing for the other one
-abbrev is_whole : Part → Bool
-is_whole M = false
-is_whole N = false
-is_whole T = true
+-- whether it stands, in a pairing, for the other term
+abbrev is_other : Part → Bool
+is_other U = true
+is_other _ = false
 
 -- A premise is on parts, or asks for a property of less height.
 abbrev descends : Wanted → Shape → Need → Bool
@@ -94,10 +95,10 @@ descends wanted shape (need.Disj left right) = is_composed shape && (is_inner le
 abbrev pair_descends : Pairing → Need → Bool
 pair_descends PassDrop asked = false
 pair_descends DropPass asked = false
-pair_descends SeqLeft (need.Disj left right) = is_first left && is_whole right
-pair_descends RevLeft (need.Disj left right) = is_first left && is_whole right
-pair_descends SeqRight (need.Disj left right) = is_whole left && is_first right
-pair_descends RevRight (need.Disj left right) = is_whole left && is_first right
+pair_descends SeqLeft (need.Disj left right) = is_first left && is_other right
+pair_descends RevLeft (need.Disj left right) = is_first left && is_other right
+pair_descends SeqRight (need.Disj left right) = is_other left && is_first right
+pair_descends RevRight (need.Disj left right) = is_other left && is_first right
 pair_descends _ (need.Of asked part) = false
 
 -- each premise of a conclusion is such
@@ -162,62 +163,20 @@ same_height (Is w) p k h =
     let same = if_true (is_same w p) (Some (number_of w)) k h in
     let ranks = equal (rank w) (rank p) (both (nat_eq (rank w) (rank p)) (nat_eq (number_of w) (number_of p)) same).0 in
     ap (λ place. slice_index_or heights place 0) (sym ranks)
-same_height DefersK Ne k h = cc
-same_height DefersK Ea k h = cc
-same_height DefersK El k h = cc
 same_height DefersK (Defers j) k h = refl
-same_height DefersK (Rejects j) k h = cc
-same_height DefersK (Elim j) k h = cc
-same_height DefersK Nb k h = cc
-same_height DefersK Decr k h = cc
-same_height DefersK Dli k h = cc
-same_height DefersK Imono k h = cc
-same_height DefersK Dimono k h = cc
-same_height DefersK Dmono k h = cc
-same_height DefersK Mono k h = cc
-same_height DefersK Cc k h = cc
-same_height DefersK Dcc k h = cc
-same_height DefersK Cprog k h = cc
-same_height DefersK Ccomp k h = cc
-same_height DefersK Neut k h = cc
-same_height RejectsK Ne k h = cc
-same_height RejectsK Ea k h = cc
-same_height RejectsK El k h = cc
-same_height RejectsK (Defers j) k h = cc
+same_height DefersK _ k h = cc
 same_height RejectsK (Rejects j) k h = refl
-same_height RejectsK (Elim j) k h = cc
-same_height RejectsK Nb k h = cc
-same_height RejectsK Decr k h = cc
-same_height RejectsK Dli k h = cc
-same_height RejectsK Imono k h = cc
-same_height RejectsK Dimono k h = cc
-same_height RejectsK Dmono k h = cc
-same_height RejectsK Mono k h = cc
-same_height RejectsK Cc k h = cc
-same_height RejectsK Dcc k h = cc
-same_height RejectsK Cprog k h = cc
-same_height RejectsK Ccomp k h = cc
-same_height RejectsK Neut k h = cc
+same_height RejectsK _ k h = cc
 
 module_shape : (shape : Shape) (k : ℕ) (l : Leaf) → is_composed shape ≡ true → is_shaped shape k (form'.leaf l) ≡ true
     → ⊥
 module_shape shape'.Any k l c h = cc
-module_shape (shape'.ModuleOf family) k l c h = cc
-module_shape shape'.PassK k l c h = cc
-module_shape shape'.DropK k l c h = cc
-module_shape shape'.Rev k l c h = cc
-module_shape shape'.Seq k l c h = cc
-module_shape shape'.Par k l c h = cc
-module_shape shape'.Loop k l c h = cc
-module_shape shape'.LoopK k l c h = cc
-module_shape shape'.LoopOne k l c h = cc
-module_shape shape'.Until k l c h = cc
-module_shape shape'.UntilK k l c h = cc
-module_shape shape'.UntilOne k l c h = cc
+module_shape _ k l c h = cc
 
 -- what a letter stands for is nested no deeper than the term, and less deep if the term is composed
 part_within : (part : Part) (t : Tree) (k : ℕ) → nesting (part_of part (letters_of t k)) ≤ nesting t
 part_within T t k = omega arith
+part_within U t k = omega arith
 part_within M (leaf l) k = omega arith
 part_within M (rev part) k = omega arith
 part_within M (seq first second) k = omega arith
@@ -232,6 +191,7 @@ part_within N (loop end body) k = omega arith
 part_below : (shape : Shape) (j : ℕ) (part : Part) (t : Tree) (k : ℕ) → is_composed shape ≡ true →
     is_shaped shape j (form_of t) ≡ true → is_inner part ≡ true → nesting (part_of part (letters_of t k)) < nesting t
 part_below shape j T t k c s i = cc
+part_below shape j U t k c s i = cc
 part_below shape j M (leaf l) k c s i = absurd (module_shape shape j l c s)
 part_below shape j M (rev part) k c s i = omega arith
 part_below shape j M (seq first second) k c s i = omega arith
@@ -343,72 +303,60 @@ is_first_part : (part : Part) (letters : Letters) → is_first part ≡ true →
 is_first_part M letters h = refl
 is_first_part N letters h = cc
 is_first_part T letters h = cc
+is_first_part U letters h = cc
 
-is_other_term : (part : Part) (letters : Letters) → is_whole part ≡ true → part_of part letters ≡ letters.t
-is_other_term M letters h = cc
-is_other_term N letters h = cc
-is_other_term T letters h = refl
+is_other_term : (part : Part) (letters : Letters) → is_other part ≡ true → part_of part letters ≡ letters.u
+is_other_term U letters h = refl
+is_other_term _ letters h = cc
 
 -- the letters of a pairing: the first part of the term that is composed, and the other term
 abbrev Fits : Pairing → Tree → Tree → Letters → Type 0
 Fits PassDrop left right letters = ⊤
 Fits DropPass left right letters = ⊤
-Fits SeqLeft left right letters = (nesting letters.m < nesting left) × (letters.t ≡ right)
-Fits RevLeft left right letters = (nesting letters.m < nesting left) × (letters.t ≡ right)
-Fits SeqRight left right letters = (nesting letters.m < nesting right) × (letters.t ≡ left)
-Fits RevRight left right letters = (nesting letters.m < nesting right) × (letters.t ≡ left)
+Fits SeqLeft left right letters = (nesting letters.m < nesting left) × (letters.u ≡ right)
+Fits RevLeft left right letters = (nesting letters.m < nesting left) × (letters.u ≡ right)
+Fits SeqRight left right letters = (nesting letters.m < nesting right) × (letters.u ≡ left)
+Fits RevRight left right letters = (nesting letters.m < nesting right) × (letters.u ≡ left)
 
 pair_fits : (pairing : Pairing) (left right : Tree) (letters : Letters) → paired pairing left right ≡ Some letters
     → Fits pairing left right letters
 pair_fits PassDrop left right letters h = tt
 pair_fits DropPass left right letters h = tt
-pair_fits SeqLeft (leaf l) other letters h = cc
-pair_fits SeqLeft (rev part) other letters h = cc
 pair_fits SeqLeft (seq first second) other letters h =
     let same : letters_of_pair first other ≡ letters = cc in
     let here : Fits SeqLeft (seq first second) other (letters_of_pair first other) = (omega arith, refl) in
     subst (Fits SeqLeft (seq first second) other) same here
-pair_fits SeqLeft (par first second) other letters h = cc
-pair_fits SeqLeft (loop end body) other letters h = cc
-pair_fits RevLeft (leaf l) other letters h = cc
+pair_fits SeqLeft _ other letters h = cc
 pair_fits RevLeft (rev part) other letters h =
     let same : letters_of_pair part other ≡ letters = cc in
     let here : Fits RevLeft (rev part) other (letters_of_pair part other) = (omega arith, refl) in
     subst (Fits RevLeft (rev part) other) same here
-pair_fits RevLeft (seq first second) other letters h = cc
-pair_fits RevLeft (par first second) other letters h = cc
-pair_fits RevLeft (loop end body) other letters h = cc
-pair_fits SeqRight other (leaf l) letters h = cc
-pair_fits SeqRight other (rev part) letters h = cc
+pair_fits RevLeft _ other letters h = cc
 pair_fits SeqRight other (seq first second) letters h =
     let same : letters_of_pair first other ≡ letters = cc in
     let here : Fits SeqRight other (seq first second) (letters_of_pair first other) = (omega arith, refl) in
     subst (Fits SeqRight other (seq first second)) same here
-pair_fits SeqRight other (par first second) letters h = cc
-pair_fits SeqRight other (loop end body) letters h = cc
-pair_fits RevRight other (leaf l) letters h = cc
+pair_fits SeqRight other _ letters h = cc
 pair_fits RevRight other (rev part) letters h =
     let same : letters_of_pair part other ≡ letters = cc in
     let here : Fits RevRight other (rev part) (letters_of_pair part other) = (omega arith, refl) in
     subst (Fits RevRight other (rev part)) same here
-pair_fits RevRight other (seq first second) letters h = cc
-pair_fits RevRight other (par first second) letters h = cc
-pair_fits RevRight other (loop end body) letters h = cc
+pair_fits RevRight other _ letters h = cc
 
-left_below : (left right : Tree) (letters : Letters) (a b : Part) → nesting letters.m < nesting left → letters.t ≡ right
+left_below : (left right : Tree) (letters : Letters) (a b : Part) → nesting letters.m < nesting left → letters.u ≡ right
     →
-    (is_first a && is_whole b) ≡ true → Below (nesting left + nesting right - 2) (filled letters (need.Disj a b))
+    (is_first a && is_other b) ≡ true → Below (nesting left + nesting right - 2) (filled letters (need.Disj a b))
 left_below left right letters a b less same h depth flat =
-    let k = both (is_first a) (is_whole b) h in
+    let k = both (is_first a) (is_other b) h in
     let e : nesting (part_of a letters) ≡ nesting letters.m = ap nesting (is_first_part a letters k.0) in
     let f : nesting (part_of b letters) ≡ nesting right = ap nesting (is_other_term b letters k.1 ∙ same) in
     omega arith
 
-right_below : (left right : Tree) (letters : Letters) (a b : Part) → nesting letters.m < nesting right → letters.t
+right_below : (left right : Tree) (letters : Letters) (a b : Part) → nesting letters.m < nesting right → letters.u
     ≡ left →
-    (is_whole a && is_first b) ≡ true → Below (nesting left + nesting right - 2) (filled letters (need.Disj a b))
+    (is_other a && is_first b) ≡ true → Below (nesting left + nesting right - 2) (filled letters (need.Disj a b))
 right_below left right letters a b less same h depth flat =
-    let k = both (is_whole a) (is_first b) h in
+    let k = both (is_other a) (is_first b) h in
     let e : nesting (part_of b letters) ≡ nesting letters.m = ap nesting (is_first_part b letters k.1) in
     let f : nesting (part_of a letters) ≡ nesting left = ap nesting (is_other_term a letters k.0 ∙ same) in
     omega arith

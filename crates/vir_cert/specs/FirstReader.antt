@@ -1,4 +1,5 @@
 -- The reader of certificates as it is where there is one version, and a language of terms without `until`.
+-- (The program's promises don't stand on this file.)
 use Rattle.std.specs.Prelude.{ℕ, ◌&&◌, List, [], ◌∷◌, length, Ok, Err, ⊤, Option, Some, None, codes, if◌then◌else◌}
 use Rattle.std.specs.Prelude.{nat_lt}
 use Rattle.std.specs.Str.{bytes_eq}

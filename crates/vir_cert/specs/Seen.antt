@@ -1,4 +1,5 @@
 -- Values of the code, in the words of the definitions.
+-- (The program's promises don't stand on this file.)
 use Rattle.vir_term.specs.Tree.{tree}
 use Rattle.vir_rules.specs.RuleTrees.{rule_tree}
 use Rattle.vir_cert.specs.declared.certificate.Certificate.{Certificate}

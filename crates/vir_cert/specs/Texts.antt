@@ -4,6 +4,7 @@ use Rattle.vir_term.specs.Tree.{Tree, leaf, rev, seq, par, loop, exactly, at_mos
 use Rattle.vir_term.specs.Limits.{IsWithinLimits}
 use Rattle.vir_term.specs.Text.{term_text}
 use Rattle.vir_rules.specs.Claims.{of}
+use Rattle.vir_rules.specs.Counts.{rule_count}
 use Rattle.vir_rules.specs.Derivations.{Valid}
 use Rattle.vir_rules.specs.Named.{IsPropInRange}
 use Rattle.vir_rules.specs.Props.{prop_text}
@@ -52,7 +53,7 @@ cert_text c =
 pub record IsCert (c : Cert) : Type 0 where
   pub term : IsWithinLimits c.term
   pub prop : IsPropInRange c.prop
-  pub rules : AreRules 95 c.derivation
+  pub rules : AreRules rule_count c.derivation
   pub flat : nesting c.derivation ≤ 256
 
 -- a certificate whose derivation derives its property of its term

@@ -6,6 +6,7 @@ use Rattle.vir_term.specs.declared.prop.Prop.TheVariants.{Neut}
 use Rattle.vir_read.specs.declared.text_fault.TextKind.TheVariants.{UnknownName}
 use Rattle.vir_read.specs.Faults.{OrFault, fault}
 use Rattle.vir_read.specs.RawTrees.{RawTree}
+use Rattle.vir_rules.specs.Counts.{rule_count}
 use Rattle.vir_rules.specs.declared.prop_name.PropName.{PropName}
 use Rattle.vir_rules.specs.declared.prop_name.PropName.TheVariants.{Alone, WithNumber}
 use Rattle.vir_cert.specs.declared.version.Version.{Version}
@@ -15,7 +16,7 @@ use Rattle.vir_cert.specs.Untils.{until_at}
 -- how many rules a version has: the first so many of the table
 abbrev pub last_rule : Version → ℕ
 last_rule One = 82
-last_rule Two = 95
+last_rule Two = rule_count
 
 -- whether a property is new in version 2
 abbrev pub is_new_prop : Prop → Bool

@@ -66,10 +66,10 @@ fn read_name(text: &[u8], list: &[Token], at: usize, last: usize) -> Result<Rule
 {
     let token = read_symbol(text, list, at, Symbol::Word)?;
     match rule_up_to(last, span(text, token.start, token.end)) {
-        None => Err(TextError::fault(TextKind::UnknownRule, token.start)),
+        None => Err(TextError::fault(TextKind::UnknownRule, token.start as usize)),
         Some(rule) => Ok(RuleAt {
             rule,
-            at: token.start,
+            at: token.start as usize,
         }),
     }
 }

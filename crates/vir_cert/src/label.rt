@@ -71,6 +71,6 @@ pub(crate) fn read_end(list: &[Token], at: usize) -> Result<(), TextError>
 {
     match front(list, at) {
         None => Ok(()),
-        Some(token) => Err(TextError::fault(TextKind::TrailingText, token.start)),
+        Some(token) => Err(TextError::fault(TextKind::TrailingText, token.start as usize)),
     }
 }

@@ -89,12 +89,12 @@ pub(crate) fn prop_of(version: Version, text: &[u8], raw: &Raw) -> Result<Prop, 
     ensures { Gives (λ p. p) result (prop_of version text.now (raw_tree raw.now)) }
 {
     match raw {
-        Raw::Number { start, .. } => Err(TextError::fault(TextKind::WrongSort, *start)),
-        Raw::List { start, .. } => Err(TextError::fault(TextKind::WrongSort, *start)),
+        Raw::Number { start, .. } => Err(TextError::fault(TextKind::WrongSort, *start as usize)),
+        Raw::List { start, .. } => Err(TextError::fault(TextKind::WrongSort, *start as usize)),
         Raw::Word { start, end, parts } => prop_at(
             version,
             text,
-            *start,
+            *start as usize,
             span(text, *start, *end),
             parts,
         ),

@@ -34,7 +34,7 @@ fn until_at(text: &[u8], raw: &Raw) -> Option<usize>
         Raw::List { members, .. } => until_in(text, members),
         Raw::Word { start, end, parts } => {
             if span(text, *start, *end) == "until".as_bytes() {
-                Some(*start)
+                Some(*start as usize)
             } else {
                 until_in(text, parts)
             }

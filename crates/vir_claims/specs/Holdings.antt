@@ -1,4 +1,5 @@
 -- What is told of the wanted properties of a rule, one after another.
+-- (The program's promises don't stand on this file.)
 use Rattle.std.specs.Prelude.{ℕ, List}
 use Rattle.vir_course.specs.Reports.{finding_text, holds}
 use Rattle.vir_course.specs.Synthesized.{Held}

@@ -1,14 +1,16 @@
 -- The courses of the commands that count, by what their files say and by the kinds of modules that the counters of
 -- the bench serve.
-use Rattle.std.specs.Prelude.{ℕ, List, [], ◌∷◌, None, Some, Ok}
+use Rattle.std.specs.Prelude.{ℕ, List, [], ◌∷◌, ◌++◌, None, Some, Ok}
+use Rattle.std.specs.List.{flat_map}
 use Rattle.std.specs.declared.option.Option.{Option}
 use Rattle.vir_counting.specs.DrillResults.{drill_terms, drill_text, first_unserved_of, runs_on}
 use Rattle.vir_altset.specs.Sets.{all}
 use Rattle.vir_course.specs.Courses.{Course, gives, stops}
-use Rattle.vir_course.specs.Reports.{count_text}
+use Rattle.vir_course.specs.Reports.{count_text, name_line, profile_lines}
+use Rattle.vir_explain.specs.PairTexts.{pairs_text}
 use Rattle.vir_machine.specs.Runs.{Run}
 use Rattle.vir_course.specs.Steps.{steps_of_runs}
-use Rattle.vir_course.specs.Wordings.{Wording, exactly, report_of}
+use Rattle.vir_course.specs.Wordings.{Wording, exactly, explanation_of, report_of}
 use Rattle.vir_course.specs.declared.stop.Stop.TheVariants as stop
 use Rattle.vir_machine.specs.Uses.{first_unserved}
 use Rattle.vir_mean.specs.declared.elimination.Elimination.{Elimination}
@@ -50,3 +52,15 @@ abbrev pub position_course : List ℕ → Elimination → File → Course Wordin
 position_course weights kind file =
     gives (exactly (result_text (positional_split kind (form.List weights) (all file.profile.alternatives)
     file.profile.lines)))
+
+-- `explain`: how the rule comes to its result, or that the text is too long; no run
+abbrev pub explain_course : Tree → File → Course Wording
+explain_course term file = gives (explanation_of term file)
+
+-- what `pairs` prints: the profile with its names, the rows of all pairs, and the Condorcet winner
+abbrev pub pairs_said : File → List ℕ
+pairs_said file = profile_lines file.profile ++ flat_map name_line file.names ++ pairs_text file.profile
+
+-- `pairs`: how many voters put one alternative before another; no run
+abbrev pub pairs_course : File → Course Wording
+pairs_course file = gives (exactly (pairs_said file))

@@ -1,4 +1,5 @@
 -- What is told of properties, one after another, while a report is made.
+-- (The program's promises don't stand on this file.)
 use Rattle.std.specs.Prelude.{◌≡◌, ℕ, List, All, map}
 use Rattle.vir_course.specs.Reports.{Finding, Found, holds, underived, finding_text, report_text}
 use Rattle.vir_course.specs.Tellings.{TellsEach}

@@ -75,9 +75,10 @@ pub fn drill_profile(
     let mut profile = Profile::new(alloc, alternatives);
     for _ in 0..lines {
         let order = drawn_order(alloc, &mut draws, alternatives)?;
+        let ballot = Ballot::of(alloc, order)?;
         let line = Entry {
             weight: 1,
-            order: Ballot::of(order),
+            order: ballot,
         };
         add_faultless(&mut profile, line)?;
     }

@@ -35,7 +35,7 @@ fn push_name(text: &mut Vec<u8>, name: &Name) -> Result<(), AllocError>
 }
 
 // Appends the lines of names.
-fn push_names(text: &mut Vec<u8>, names: &[Name]) -> Result<(), AllocError>
+pub(crate) fn push_names(text: &mut Vec<u8>, names: &[Name]) -> Result<(), AllocError>
     ensures { OnOk result (text.new.items ≡ text.old.items ++ flat_map name_line names.now) }
 {
     for name in names {
@@ -54,7 +54,7 @@ fn push_rule(text: &mut Vec<u8>, rule: &Term) -> Result<(), AllocError>
 }
 
 // Appends the lines of a profile.
-fn push_profile(text: &mut Vec<u8>, profile: &Profile) -> Result<(), AllocError>
+pub(crate) fn push_profile(text: &mut Vec<u8>, profile: &Profile) -> Result<(), AllocError>
     ensures { OnOk result (text.new.items ≡ text.old.items ++ profile_lines profile.now) }
 {
     text.extend_from_slice(b"alternatives ")?;
@@ -65,7 +65,7 @@ fn push_profile(text: &mut Vec<u8>, profile: &Profile) -> Result<(), AllocError>
 }
 
 // Appends what stands before the result: the rule, and the profile with its names.
-fn push_head(text: &mut Vec<u8>, rule: &Term, file: &SocFile) -> Result<(), AllocError>
+pub(crate) fn push_head(text: &mut Vec<u8>, rule: &Term, file: &SocFile) -> Result<(), AllocError>
     ensures { OnOk result (text.new.items ≡ text.old.items ++ head_text (tree rule.now) file.now) }
 {
     push_rule(text, rule)?;

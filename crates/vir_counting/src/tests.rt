@@ -3,7 +3,7 @@ use crate::drill_profile::drill_profile;
 use crate::drill_terms::drill_terms;
 use std::alloc::AllocError;
 use vir_mean::plain_result;
-use vir_profile::AltSet;
+use vir_profile::{AltSet, NARROW};
 
 #[test]
 fn a_seed_gives_its_first_ballot(rt: HostRuntime) -> Result<(), AllocError> {
@@ -12,7 +12,7 @@ fn a_seed_gives_its_first_ballot(rt: HostRuntime) -> Result<(), AllocError> {
         panic!(rt; "there is no line");
     };
     assert!(rt; line.weight == 1);
-    assert!(rt; line.order.alternatives() == [3, 1, 2].as_slice());
+    assert!(rt; line.order.alternatives(&mut [0; NARROW]) == [3, 1, 2].as_slice());
     Ok(())
 }
 

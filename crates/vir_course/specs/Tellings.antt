@@ -1,4 +1,5 @@
 -- What is told of properties, one after another, while a text is made.
+-- (The program's promises don't stand on this file.)
 use Rattle.std.specs.Prelude.{◌≡◌, ℕ, List, ◌++◌, All, map}
 use Rattle.std.specs.List.{flat_map}
 use Rattle.vir_term.specs.declared.prop.Prop.{Prop}

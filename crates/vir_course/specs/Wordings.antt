@@ -4,6 +4,7 @@ use Rattle.vir_course.specs.declared.answer.Answer.{Answer}
 use Rattle.vir_course.specs.declared.answer.Answer.TheVariants as answer
 use Rattle.vir_cert.specs.Certs.{Cert}
 use Rattle.vir_course.specs.Certified.{IsAccepted, IsCertified, IsDenied, IsRefused}
+use Rattle.vir_course.specs.Explained.{IsExplanation, IsUnexplained}
 use Rattle.vir_course.specs.Refuted.{IsNoViolation, IsViolation}
 use Rattle.vir_course.specs.Reports.{Reported}
 use Rattle.vir_course.specs.Simplified.{IsSimplified}
@@ -40,6 +41,8 @@ pub data Wording : Type 0 where
   case_against : Tree → Prop → Case → Wording
   -- what a rule is simplified to, and the steps
   simple_of : Tree → Wording
+  -- how a rule comes to its result on a profile with names, or a denial, where that text is too long
+  explanation_of : Tree → File → Wording
 
 -- The reply is such a text, and what it affirms is so.
 abbrev pub IsWorded : Wording → Reply → Type 0
@@ -57,6 +60,8 @@ IsWorded (case_against term prop case) (prints told) = IsViolation term prop cas
 IsWorded (case_against term prop case) (denies told) = IsNoViolation term prop case told
 IsWorded (simple_of term) (prints told) = IsSimplified term told
 IsWorded (simple_of term) (denies told) = ⊥
+IsWorded (explanation_of term file) (prints told) = IsExplanation term file told
+IsWorded (explanation_of term file) (denies told) = IsUnexplained term file told
 
 -- So it is of an answer of the code.
 abbrev pub Tells : Wording → Answer → Type 0

@@ -1,4 +1,5 @@
 -- What a call does with a bench that follows a course without files.
+-- (The program's promises don't stand on this file.)
 use Rattle.std.specs.Prelude.{◌≡◌, List, Result}
 use Rattle.vir_course.specs.Courses.{Course, Follows}
 use Rattle.vir_machine.specs.Runs.{BenchView, Run}

@@ -1,5 +1,6 @@
 -- What is answered of a file whose text is read whole and then judged.
-use Rattle.std.proofs.Common.{◌≡◌, ℕ, ◌<◌, ◌≤◌, Bool, true, false, List, [], ◌∷◌, length, Option, None, Some}
+use Rattle.std.proofs.Common.{Option}
+use Rattle.std.proofs.Common.{◌≡◌, ℕ, ◌<◌, ◌≤◌, Bool, true, false, List, [], ◌∷◌, length, None, Some}
 use Rattle.std.proofs.Common.{Result, Ok, Err, nat_lt, refl, sym, ap, subst, arith, if◌then◌else◌}
 use Rattle.std.specs.declared.alloc.Global.{Global}
 use Rattle.std.specs.declared.vec.Vec.{Vec}
@@ -11,11 +12,11 @@ use Rattle.vir_course.specs.declared.stop.Stop.TheVariants as stop
 use Rattle.vir_course.proofs.CourseLemmas.{follows_stop, follows_then}
 use Rattle.vir_files.specs.Files.{Kind, accept, asked_file, read_as}
 use Rattle.vir_files.specs.Judges.{Judges, texts}
-use Rattle.vir_files.specs.Performs.{Left, ReadsFile}
+use Rattle.vir_files.specs.Performs.{ReadsFile, Took}
 use Rattle.vir_files.specs.Values.{SeesText}
 use Rattle.vir_files.proofs.ContentLemmas.{content_can, longer_can}
-use Rattle.vir_files.proofs.PerformLemmas.{left_before, same_reason}
-use Rattle.vir_outside.specs.Shelf.{Files, IsContent, IsLonger}
+use Rattle.vir_files.proofs.PerformLemmas.{same_reason, took_so}
+use Rattle.vir_outside.specs.Shelf.{Faulted, IsContent, IsLonger, ShelfView}
 use Rattle.vir_read.specs.Faults.{fault}
 use Rattle.vir_read.specs.declared.text_fault.TextFault.{TextFault}
 use Rattle.vir_read.specs.declared.text_fault.TextKind.TheVariants.{TextTooLong}
@@ -35,19 +36,18 @@ not_above : (limit n : ℕ) → n ≤ limit → nat_lt limit n ≡ false
 not_above limit n is = grind (arith, nat_tests)
 
 -- ---- the text
-module _ (limit : ℕ) (files : Option Files) (name : List ℕ) (rose : Type 0) (selected : Bool)
-    (rest : Option (List ℕ)) where
+module _ (limit : ℕ) (name : List ℕ) (old new : ShelfView) where
   -- what it says, by whether it is too long
   abbrev says_by : List ℕ → Bool → Result (List ℕ) Stop
   says_by bytes b = accept refused (if b then Err (fault TextTooLong limit) else Ok bytes)
 
   -- it was read whole
   pub reads_text : (text : Vec ℕ Global) (answer : Result (Vec ℕ Global) Stop)
-      → Left files (asked_file (texts limit) name) selected rest (answer ≡ Err stop.ReadFault)
-      → IsContent files name text.items → length text.items ≤ limit → answer ≡ Ok text
-      → ReadsFile (texts limit) SeesText name files rose selected rest answer
-  reads_text text answer left content within is =
-      let follows : Follows SeesText rose (read_as (texts limit) name (Some text.items))
+      → Took old new (asked_file (texts limit) name) (answer ≡ Err stop.ReadFault)
+      → IsContent old.files name text.items → length text.items ≤ limit → answer ≡ Ok text
+      → ReadsFile (texts limit) SeesText name old new answer
+  reads_text text answer took content within is =
+      let follows : Follows SeesText (Faulted old new) (read_as (texts limit) name (Some text.items))
       (reads (asked_file (texts limit) name) ∷ []) (Ok text) =
       record {
         all_made = refl;
@@ -57,27 +57,30 @@ module _ (limit : ℕ) (files : Option Files) (name : List ℕ) (rose : Type 0) 
       } in
       record {
         content = Some text.items;
-        can_be = content_can files name text.items content;
+        can_be = content_can old.files name text.items content;
         follows = rw is follows;
-        left = left;
+        took = took;
       }
 
   -- it is longer
   pub reads_too_long : (answer : Result (Vec ℕ Global) Stop)
-      → Left files (asked_file (texts limit) name) selected rest (answer ≡ Err stop.ReadFault)
-      → IsLonger files name limit → answer ≡ Err (refused (fault TextTooLong limit))
-      → ReadsFile (texts limit) SeesText name files rose selected rest answer
-  reads_too_long answer left longer is =
-      let (bytes, long, can) = longer_can files name limit longer in
-      let follows : Follows SeesText rose (read_as (texts limit) name (Some bytes))
+      → Took old new (asked_file (texts limit) name) (answer ≡ Err stop.ReadFault)
+      → IsLonger old.files name limit → answer ≡ Err (refused (fault TextTooLong limit))
+      → ReadsFile (texts limit) SeesText name old new answer
+  reads_too_long answer took longer is =
+      let (bytes, long, can) = longer_can old.files name limit longer in
+      let follows : Follows SeesText (Faulted old new) (read_as (texts limit) name (Some bytes))
       (reads (asked_file (texts limit) name) ∷ []) (Err (refused (fault TextTooLong limit))) =
       record { all_made = refl; end_is = ap (says_by bytes) (above limit (length bytes) long) } in
-      record { content = Some bytes; can_be = can; follows = rw is follows; left = left }
+      record { content = Some bytes; can_be = can; follows = rw is follows; took = took }
 
 -- ---- what is judged of it
 module _ {A X : Type 0} (limit : ℕ) (says : List ℕ → Result A TextFault) (seen : X → A)
     (too_long : (bytes : List ℕ) → nat_lt limit (length bytes) ≡ true → says bytes ≡ Err (fault TextTooLong limit))
-    (files : Option Files) (name : List ℕ) (rose : Type 0) (selected : Bool) (rest : Option (List ℕ)) where
+    (name : List ℕ) (old new : ShelfView) where
+  abbrev rose : Type 0
+  rose = Faulted old new
+
   -- files whose texts say this
   abbrev kind : Kind A TextFault
   kind = record { limit = limit; says = says; refused = λ f. stop.TextRefused f }
@@ -117,8 +120,8 @@ module _ {A X : Type 0} (limit : ℕ) (says : List ℕ → Result A TextFault) (
   by_content (Some bytes) = by_text bytes (nat_lt limit (length bytes)) refl
 
   -- its text isn't read
-  pub reads_stopped : (reason : Stop) → ReadsFile (texts limit) SeesText name files rose selected rest (Err reason)
-      → ReadsFile kind (SeesAs seen) name files rose selected rest (Err reason)
+  pub reads_stopped : (reason : Stop) → ReadsFile (texts limit) SeesText name old new (Err reason)
+      → ReadsFile kind (SeesAs seen) name old new (Err reason)
   reads_stopped reason r =
       record {
         content = r.content;
@@ -127,13 +130,13 @@ module _ {A X : Type 0} (limit : ℕ) (says : List ℕ → Result A TextFault) (
             subst (λ (c : Course A). Follows (SeesAs seen) rose c made (Err reason)) (by_content r.content)
             (follows_stop SeesText (SeesAs seen) rose (read_as (texts limit) name r.content) judged made reason
             r.follows);
-        left = left_before files files (asked_file kind name) selected rest _ _ refl (λ e. same_reason reason e) r.left;
+        took = took_so old new (asked_file kind name) _ _ (λ e. same_reason reason e) r.took;
       }
 
   -- it is read, and judged
   pub reads_judged : (text : Vec ℕ Global) (answer : Result X Stop)
-      → ReadsFile (texts limit) SeesText name files rose selected rest (Ok text) → Judges seen (says text.items) answer
-      → ReadsFile kind (SeesAs seen) name files rose selected rest answer
+      → ReadsFile (texts limit) SeesText name old new (Ok text) → Judges seen (says text.items) answer
+      → ReadsFile kind (SeesAs seen) name old new answer
   reads_judged text answer r j =
       let judges : Judges seen (says r.follows.value) answer =
       subst (λ (bytes : List ℕ). Judges seen (says bytes) answer) (sym r.follows.sees) j in
@@ -144,5 +147,5 @@ module _ {A X : Type 0} (limit : ℕ) (says : List ℕ → Result A TextFault) (
             subst (λ (c : Course A). Follows (SeesAs seen) rose c made answer) (by_content r.content)
             (follows_then SeesText (SeesAs seen) (read_as (texts limit) name r.content) judged made text r.follows rose
             [] answer (judged_follows r.follows.value answer judges));
-        left = left_before files files (asked_file kind name) selected rest _ _ refl (λ e. absurd cc) r.left;
+        took = took_so old new (asked_file kind name) _ _ (λ e. absurd cc) r.took;
       }

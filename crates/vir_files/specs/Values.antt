@@ -1,4 +1,5 @@
 -- What files say, as the code has it.
+-- (The program's promises don't stand on this file.)
 use Rattle.std.specs.Prelude.{◌≡◌, ℕ, List}
 use Rattle.std.specs.declared.alloc.Global.{Global}
 use Rattle.std.specs.declared.vec.Vec.{Vec}

@@ -1,12 +1,11 @@
 // A certificate, read whole and judged.
-ghost use Rattle.std.specs.Prelude.{◌≡◌, ◌≤◌, IfOk};
+ghost use Rattle.std.specs.Prelude.{◌≡◌, IfOk};
 ghost use Rattle.vir_cert.specs.Certs.{cert_of};
 ghost use Rattle.vir_cert.specs.Seen.{cert_seen};
 ghost use Rattle.vir_cert.specs.Texts.{IsCert};
 ghost use Rattle.vir_files.specs.Files.{certificates};
 ghost use Rattle.vir_files.specs.Judges.{Judges};
 ghost use Rattle.vir_files.specs.Performs.{ReadsFile};
-ghost use Rattle.vir_outside.specs.Faults.{Rose};
 
 use crate::text_file::text_file;
 use std::alloc::Global;
@@ -33,12 +32,9 @@ pub fn certificate_file<S: Shelf>(
     shelf: &mut S,
     name: &str,
 ) -> Result<Certificate, Stop>
-    ensures reads { ReadsFile certificates (λ c x. c ≡ cert_seen x) name.now (S.files shelf.old)
-        (Rose (S.faults shelf.old) (S.faults shelf.new))
-        (S.selected shelf.new) (S.rest shelf.new) result }
+    ensures reads { ReadsFile certificates (λ c x. c ≡ cert_seen x) name.now (S.seen shelf.old) (S.seen shelf.new)
+        result }
     ensures within { IfOk result (λ c. IsCert (cert_seen c)) }
-    ensures files { S.files shelf.new ≡ S.files shelf.old }
-    ensures later { S.faults shelf.old ≤ S.faults shelf.new }
 {
     let text = text_file(alloc, shelf, name, CERTIFICATE_LIMIT)?;
     judge(alloc, &text)

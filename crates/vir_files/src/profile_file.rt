@@ -1,10 +1,9 @@
 // A profile, read in pieces to its end or to its first fault.
-ghost use Rattle.std.specs.Prelude.{◌≡◌, ◌≤◌, ◌+◌, ℕ, List, length, IsTrue, IfOk, IfErr, Err};
-ghost use Rattle.std.specs.Io.KnownBytes.{Consumes};
-ghost use Rattle.vir_files.specs.Feeding.{AnswersRest, Finishes, StandsForRest, stop_of};
+ghost use Rattle.std.specs.Prelude.{◌≡◌, ◌≤◌, ◌+◌, ℕ, List, IsTrue, IfOk, IfErr, Err};
+ghost use Rattle.vir_files.specs.Feeding.{AnswersRest, Finishes, StandsForRest, StopsAtFault, TakesPieces, stop_of};
 ghost use Rattle.vir_files.specs.Files.{profiles};
 ghost use Rattle.vir_files.specs.Performs.{ReadsFile};
-ghost use Rattle.vir_outside.specs.Faults.{Rose};
+ghost use Rattle.vir_outside.specs.Shelf.{Faulted, IsLater, ReadsOn};
 ghost use Rattle.vir_soc.specs.Reader.Stands.{stands};
 
 use std::alloc::Global;
@@ -17,7 +16,7 @@ use vir_soc::{SocError, SocReader};
 const SIZE_LIMIT: usize = vir_soc::PROFILE_SIZE_LIMIT as usize;
 
 /// How many bytes are read at a time.
-const PIECE: usize = 65_536;
+const PIECE: usize = 8_192;
 
 // Why a call stops where the reader stops.
 fn stop_of(error: SocError) -> Stop
@@ -42,15 +41,14 @@ fn room_after(taken: usize) -> usize
 
 // A reader that was fed what is left of the selected file, to its end.
 fn fed_reader<S: Shelf>(alloc: Global, shelf: &mut S) -> Result<SocReader, Stop>
-    requires { IsTrue (S.selected shelf.old) }
-    ensures fed { IfOk result (λ reader. StandsForRest reader (S.rest shelf.old)) }
-    ensures stops { IfErr result (λ stop. AnswersRest (S.rest shelf.old)
-        (Rose (S.faults shelf.old) (S.faults shelf.new)) (Err stop)) }
-    ensures taken { (bytes : List ℕ) × (length bytes ≤ SIZE_LIMIT + 1)
-        × Consumes (S.rest shelf.old) (S.rest shelf.new) bytes }
-    ensures selected { IsTrue (S.selected shelf.new) }
-    ensures files { S.files shelf.new ≡ S.files shelf.old }
-    ensures later { S.faults shelf.old ≤ S.faults shelf.new }
+    requires { IsTrue (S.seen shelf.old).selected }
+    ensures fed { IfOk result (λ reader. StandsForRest reader (S.seen shelf.old).rest) }
+    ensures stops { IfErr result (λ stop. AnswersRest (S.seen shelf.old).rest
+        (Faulted (S.seen shelf.old) (S.seen shelf.new)) (Err stop)) }
+    ensures taken { TakesPieces (S.seen shelf.old).rest (S.seen shelf.new).rest }
+    ensures selected { IsTrue (S.seen shelf.new).selected }
+    ensures reads_on { ReadsOn (S.seen shelf.old) (S.seen shelf.new) }
+    ensures later { IsLater (S.seen shelf.old) (S.seen shelf.new) }
 {
     let mut reader = SocReader::new(alloc);
     let mut piece = [0u8; PIECE];
@@ -84,26 +82,22 @@ fn finish(reader: SocReader) -> Result<SocFile, Stop>
 
 // The profile and the names of the selected file, from what is left of it.
 fn selected_profile<S: Shelf>(alloc: Global, shelf: &mut S) -> Result<SocFile, Stop>
-    requires { IsTrue (S.selected shelf.old) }
-    ensures answers { AnswersRest (S.rest shelf.old) (Rose (S.faults shelf.old) (S.faults shelf.new)) result }
-    ensures taken { (bytes : List ℕ) × (length bytes ≤ SIZE_LIMIT + 1)
-        × Consumes (S.rest shelf.old) (S.rest shelf.new) bytes }
-    ensures selected { IsTrue (S.selected shelf.new) }
-    ensures files { S.files shelf.new ≡ S.files shelf.old }
-    ensures later { S.faults shelf.old ≤ S.faults shelf.new }
+    requires { IsTrue (S.seen shelf.old).selected }
+    ensures answers { AnswersRest (S.seen shelf.old).rest (Faulted (S.seen shelf.old) (S.seen shelf.new)) result }
+    ensures taken { TakesPieces (S.seen shelf.old).rest (S.seen shelf.new).rest }
+    ensures selected { IsTrue (S.seen shelf.new).selected }
+    ensures reads_on { ReadsOn (S.seen shelf.old) (S.seen shelf.new) }
+    ensures later { IsLater (S.seen shelf.old) (S.seen shelf.new) }
 {
     let reader = fed_reader(alloc, shelf)?;
     finish(reader)
 }
 
 /// The profile and the names of a file. It is read in pieces, each of which is fed to the reader of
-/// profiles, to the end of the file or to its first fault.
+/// profiles, to the end of the file or to its first fault: behind the piece that settles that, nothing is read.
 pub fn profile_file<S: Shelf>(alloc: Global, shelf: &mut S, name: &str) -> Result<SocFile, Stop>
-    ensures reads { ReadsFile profiles (λ f x. f ≡ x) name.now (S.files shelf.old)
-        (Rose (S.faults shelf.old) (S.faults shelf.new))
-        (S.selected shelf.new) (S.rest shelf.new) result }
-    ensures files { S.files shelf.new ≡ S.files shelf.old }
-    ensures later { S.faults shelf.old ≤ S.faults shelf.new }
+    ensures reads { ReadsFile profiles (λ f x. f ≡ x) name.now (S.seen shelf.old) (S.seen shelf.new) result }
+    ensures stops { StopsAtFault (S.seen shelf.new) name.now }
 {
     match shelf.select(name) {
         Ok(()) => selected_profile(alloc, shelf),

@@ -1,9 +1,7 @@
 // A text of the language, read whole.
-ghost use Rattle.std.specs.Prelude.{◌≡◌, ◌≤◌};
 ghost use Rattle.vir_files.specs.Judges.{texts};
 ghost use Rattle.vir_files.specs.Performs.{ReadsFile};
 ghost use Rattle.vir_files.specs.Values.{SeesText};
-ghost use Rattle.vir_outside.specs.Faults.{Rose};
 
 use std::alloc::Global;
 use vir_course::Stop;
@@ -17,11 +15,7 @@ pub fn text_file<S: Shelf>(
     name: &str,
     limit: usize,
 ) -> Result<Vec<u8>, Stop>
-    ensures reads { ReadsFile (texts limit) SeesText name.now (S.files shelf.old)
-        (Rose (S.faults shelf.old) (S.faults shelf.new))
-        (S.selected shelf.new) (S.rest shelf.new) result }
-    ensures files { S.files shelf.new ≡ S.files shelf.old }
-    ensures later { S.faults shelf.old ≤ S.faults shelf.new }
+    ensures { ReadsFile (texts limit) SeesText name.now (S.seen shelf.old) (S.seen shelf.new) result }
 {
     match read_whole(alloc, shelf, name, limit) {
         Ok(text) => Ok(text),

@@ -1,10 +1,9 @@
 // A rule file, and two profiles once that is accepted.
-ghost use Rattle.std.specs.Prelude.{◌≡◌, ◌≤◌, IfOk};
+ghost use Rattle.std.specs.Prelude.{◌≡◌, IfOk};
 ghost use Rattle.vir_machine.specs.Runs.{BenchView};
-ghost use Rattle.vir_files.specs.Performs.{Performs};
+ghost use Rattle.vir_files.specs.Performs.{AsksFirst, Performs};
 ghost use Rattle.vir_files.specs.Readings.{rule_and_two_profiles_of};
 ghost use Rattle.vir_files.specs.Values.{SeesRuleTwoProfiles};
-ghost use Rattle.vir_outside.specs.Faults.{Rose};
 ghost use Rattle.vir_term.specs.Limits.{IsWithinLimits};
 ghost use Rattle.vir_term.specs.Tree.{tree};
 
@@ -38,11 +37,9 @@ pub fn rule_and_two_profiles<S: Shelf>(
 ) -> Result<RuleAndTwoProfiles, Stop>
     ensures performs { (bench : BenchView)
         → Performs (λ contents. rule_and_two_profiles_of contents rule_name.now first_name.now second_name.now)
-        SeesRuleTwoProfiles (S.files shelf.old) (Rose (S.faults shelf.old) (S.faults shelf.new)) ⊥ bench bench
-        (S.selected shelf.new) (S.rest shelf.new) result }
+        SeesRuleTwoProfiles S.seen shelf.old shelf.new bench bench result }
     ensures within { IfOk result (λ all. IsWithinLimits (tree all.rule)) }
-    ensures files { S.files shelf.new ≡ S.files shelf.old }
-    ensures later { S.faults shelf.old ≤ S.faults shelf.new }
+    ensures asks { AsksFirst (S.seen shelf.old) (S.seen shelf.new) rule_name.now }
 {
     let both = rule_and_profile(alloc, shelf, rule_name, first_name)?;
     let second = profile_file(alloc, shelf, second_name)?;

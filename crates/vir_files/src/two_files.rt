@@ -1,10 +1,9 @@
 // A rule file, and a profile once that is accepted.
-ghost use Rattle.std.specs.Prelude.{◌≡◌, ◌≤◌, IfOk};
+ghost use Rattle.std.specs.Prelude.{◌≡◌, IfOk};
 ghost use Rattle.vir_machine.specs.Runs.{BenchView};
-ghost use Rattle.vir_files.specs.Performs.{Performs};
+ghost use Rattle.vir_files.specs.Performs.{AsksFirst, Performs};
 ghost use Rattle.vir_files.specs.Readings.{rule_and_profile_of};
 ghost use Rattle.vir_files.specs.Values.{SeesRuleProfile};
-ghost use Rattle.vir_outside.specs.Faults.{Rose};
 ghost use Rattle.vir_term.specs.Limits.{IsWithinLimits};
 ghost use Rattle.vir_term.specs.Tree.{tree};
 
@@ -35,11 +34,9 @@ pub fn rule_and_profile<S: Shelf>(
 ) -> Result<RuleAndProfile, Stop>
     ensures performs { (bench : BenchView)
         → Performs (λ contents. rule_and_profile_of contents rule_name.now profile_name.now) SeesRuleProfile
-        (S.files shelf.old) (Rose (S.faults shelf.old) (S.faults shelf.new)) ⊥ bench bench
-        (S.selected shelf.new) (S.rest shelf.new) result }
+        S.seen shelf.old shelf.new bench bench result }
     ensures within { IfOk result (λ both. IsWithinLimits (tree both.rule)) }
-    ensures files { S.files shelf.new ≡ S.files shelf.old }
-    ensures later { S.faults shelf.old ≤ S.faults shelf.new }
+    ensures asks { AsksFirst (S.seen shelf.old) (S.seen shelf.new) rule_name.now }
 {
     let rule = rule_file(alloc, shelf, rule_name)?;
     let file = profile_file(alloc, shelf, profile_name)?;

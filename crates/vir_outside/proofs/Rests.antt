@@ -1,17 +1,16 @@
 -- How the bytes read so far and what is left make up what there was.
-use Rattle.std.proofs.Common.{◌≡◌, ℕ, ◌+◌, ◌-◌, ◌≤◌, Bool, List, ◌++◌, length, take, Option, None, Some, IsTrue, sym}
+use Rattle.std.proofs.Common.{ℕ, ◌+◌, ◌-◌, ◌≤◌, List, ◌++◌, length, take, Option, None, Some, IsTrue, sym}
 use Rattle.std.proofs.Common.{ap, ◌∙◌, append_assoc, arith, length-append, length-take}
 use Rattle.std.specs.Io.KnownBytes.{Consumes}
-use Rattle.vir_outside.specs.Shelf.{Files}
+use Rattle.vir_outside.specs.Shelf.{IsLater, ReadsOn, ShelfView}
 
--- A loop has read these bytes of a rest, from a shelf that told these files.
-pub record IsReading (told : Option Files) (limit before : ℕ) (rest : Option (List ℕ))
-    (files : Option Files) (selected : Bool) (now : ℕ) (left : Option (List ℕ)) (whole : List ℕ) : Type 0 where
-  pub same_files : files ≡ told
-  pub is_selected : IsTrue selected
+-- A loop has read these bytes of what was left of the selected file.
+pub record IsReading (old now : ShelfView) (limit : ℕ) (whole : List ℕ) : Type 0 where
+  pub reads_on : ReadsOn old now
+  pub is_selected : IsTrue now.selected
   pub within : length whole ≤ limit
-  pub later : before ≤ now
-  pub parts : Consumes rest left whole
+  pub later : IsLater old now
+  pub parts : Consumes old.rest now.rest whole
 
 -- Two reads, one after the other, are one.
 pub consumes_more : (rest left new : Option (List ℕ)) (whole bytes : List ℕ)

@@ -2,16 +2,15 @@
 use Rattle.std.proofs.Common.{◌≡◌, ℕ, ◌+◌, ◌-◌, ◌≤◌, List, [], ◌++◌, length, take, drop, Option, None, Some, sym, ap}
 use Rattle.std.proofs.Common.{◌∙◌, append_assoc, arith, length-drop}
 use Rattle.std.specs.Io.KnownBytes.{Appends}
-use Rattle.vir_outside.specs.Sink.{CallsAtMost}
+use Rattle.vir_outside.specs.Sink.{CallsAtMost, SinkView}
 use Rattle.std.proofs.lemmas.List.{take_all, take-append-drop}
 
 -- A loop has written the text but for what is left, by at most one call for each byte, and nothing was written of an
 -- empty one.
-pub record IsWriting (text left : List ℕ) (before now : ℕ) (old new : Option (List ℕ)) (first last : Option ℕ)
-    (IsSame : Type 0) : Type 0 where
-  pub later : before ≤ now
-  pub front : (xs : List ℕ) × (text ≡ xs ++ left) × Appends old new xs
-  pub calls : CallsAtMost first last (length text - length left)
+pub record IsWriting (text left : List ℕ) (old now : SinkView) (IsSame : Type 0) : Type 0 where
+  pub later : old.faults ≤ now.faults
+  pub front : (xs : List ℕ) × (text ≡ xs ++ left) × Appends old.written now.written xs
+  pub calls : CallsAtMost old.calls now.calls (length text - length left)
   pub within : length left ≤ length text
   pub no_text : text ≡ [] → IsSame
 

@@ -1,19 +1,27 @@
 -- The memory shelf and the memory sink: what they hold, and what a call does to them.
-use Rattle.std.specs.Prelude.{◌==◌, ℕ, Bool, List, drop, None, Some, if◌then◌else◌}
+-- (The program's promises don't stand on this file.)
+use Rattle.std.specs.Prelude.{◌==◌, ℕ, Bool, List, ◌∷◌, drop, is_some, None, Some, if◌then◌else◌}
 use Rattle.std.specs.Option.{option_map}
 use Rattle.std.specs.List.{list_any, slice_get}
 use Rattle.std.specs.declared.option.Option.{Option}
 use Rattle.vir_outside.specs.Faults.{one_more}
-use Rattle.vir_outside.specs.Shelf.{Files, content_of}
+use Rattle.vir_outside.specs.Shelf.{Files, Request, ShelfView, content_of, to_read, to_select}
+use Rattle.vir_outside.specs.Sink.{SinkView}
 
 -- A shelf in memory: its files, the numbers of the calls that fail, the calls made, the faults,
--- and what is left of the selected file.
+-- what it was asked for, and what is left of the selected file.
 pub record ShelfState : Type 0 where
   pub files : Files
   pub failing : List ℕ
   pub calls : ℕ
   pub faults : ℕ
+  pub asked : List Request
   pub rest : Option (List ℕ)
+
+-- it tells everything
+abbrev pub memory_seen : ShelfState → ShelfView
+memory_seen s =
+    record { files = Some s.files; faults = s.faults; asked = s.asked; selected = is_some s.rest; rest = s.rest }
 
 -- A sink in memory: how much a write takes at most, the numbers of the calls that fail, the calls
 -- made, the faults, and the bytes written.
@@ -23,6 +31,9 @@ pub record SinkState : Type 0 where
   pub calls : ℕ
   pub faults : ℕ
   pub bytes : List ℕ
+
+abbrev pub sink_seen : SinkState → SinkView
+sink_seen s = record { faults = s.faults; written = Some s.bytes; calls = Some s.calls }
 
 -- whether the call after so many is listed as failing
 abbrev pub is_next_listed : List ℕ → ℕ → Bool
@@ -39,11 +50,13 @@ after_call old at_fault rest =
 -- the shelf after `select`: a listed call leaves nothing selected, any other the file of the name,
 -- where there is one
 abbrev pub after_select : ShelfState → List ℕ → ShelfState
-after_select old name = after_call old None (content_of old.files name)
+after_select old name =
+    after_call (record old { asked = to_select name ∷ old.asked }) None (content_of old.files name)
 
 -- the shelf after `read` into so many bytes: a listed call takes nothing, any other all that fits
 abbrev pub after_read : ShelfState → ℕ → ShelfState
-after_read old room = after_call old old.rest (option_map (drop room) old.rest)
+after_read old room =
+    after_call (record old { asked = to_read ∷ old.asked }) old.rest (option_map (drop room) old.rest)
 
 -- what is left of the file at a place, behind so many bytes
 abbrev pub rest_at : Files → Option ℕ → ℕ → Option (List ℕ)

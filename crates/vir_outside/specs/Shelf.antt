@@ -4,10 +4,49 @@ use Rattle.std.specs.Prelude.{None, Some, IsSome, IsTrue, option_and_then, if◌
 use Rattle.std.specs.Str.{bytes_eq}
 use Rattle.std.specs.Io.KnownBytes.{prepend_known}
 use Rattle.std.specs.declared.option.Option.{Option}
+use Rattle.vir_outside.specs.Faults.{Rose}
 
 -- files, each a name and its bytes
 abbrev pub Files : Type 0
 Files = List (List ℕ × List ℕ)
+
+-- what a shelf is asked for: to select the file of this name, or to read on in the selected one
+pub data Request : Type 0 where
+  to_select : List ℕ → Request
+  to_read : Request
+
+-- What is seen of a shelf: its files, each a name and its bytes, where it tells them (of two of one name the first is
+-- meant); how many faults it has counted, where a count at the greatest `u64` stays there; what it was asked for so
+-- far, the latest first; whether a file is selected; and what is left of that, where it is told.
+pub record ShelfView : Type 0 where
+  pub files : Option Files
+  pub faults : ℕ
+  pub asked : List Request
+  pub selected : Bool
+  pub rest : Option (List ℕ)
+
+-- The files stay, and the count of faults never falls.
+pub record IsLater (old new : ShelfView) : Type 0 where
+  pub files : new.files ≡ old.files
+  pub faults : old.faults ≤ new.faults
+
+-- The count of faults rose.
+abbrev pub Faulted : ShelfView → ShelfView → Type 0
+Faulted old new = Rose old.faults new.faults
+
+-- what was asked for up to the last time that a file was selected
+abbrev pub up_to_select : List Request → List Request
+up_to_select [] = []
+up_to_select (to_select name ∷ before) = to_select name ∷ before
+up_to_select (to_read ∷ before) = up_to_select before
+
+-- The file of this name is selected, and no other one; nothing is read before that.
+abbrev pub AsksFor : ShelfView → ShelfView → List ℕ → Type 0
+AsksFor old new name = up_to_select new.asked ≡ to_select name ∷ old.asked
+
+-- No file is selected.
+abbrev pub ReadsOn : ShelfView → ShelfView → Type 0
+ReadsOn old new = up_to_select new.asked ≡ up_to_select old.asked
 
 -- the content of the first file of that name, where there is one
 abbrev pub content_of : Files → List ℕ → Option (List ℕ)
@@ -37,7 +76,7 @@ IsLonger files name limit =
 
 -- Where the files are told and one is selected, the rest is what the file of this name has behind
 -- at most so many bytes.
-abbrev pub TakesAtMost : Option Files → List ℕ → Bool → Option (List ℕ) → ℕ → Type 0
-TakesAtMost files name selected rest most =
-    IsSome files → IsTrue selected → (taken : List ℕ) × (length taken ≤ most)
-    × (told_content files name ≡ prepend_known taken rest)
+abbrev pub TakesAtMost : ShelfView → List ℕ → ℕ → Type 0
+TakesAtMost shelf name most =
+    IsSome shelf.files → IsTrue shelf.selected → (taken : List ℕ) × (length taken ≤ most)
+    × (told_content shelf.files name ≡ prepend_known taken shelf.rest)

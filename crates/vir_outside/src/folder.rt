@@ -1,10 +1,12 @@
 // The files of the current folder, as a shelf that tells nothing of content.
-ghost use Rattle.std.specs.Prelude.{◌≡◌, ◌⊎◌, ◌≤◌, None, IsTrue, OnOk, OnErr, is_ok, false};
+ghost use Rattle.std.specs.Prelude.{◌≡◌, ◌⊎◌, [], ◌∷◌, None, IsTrue, OnOk, OnErr, false};
 ghost use Rattle.std.specs.Io.{ReadsAtMost};
 ghost use Rattle.std.specs.Io.KnownBytes.{ReadConsumes};
-ghost use Rattle.vir_outside.specs.Faults.{Rose, HasCause, count_after};
-ghost use Rattle.vir_outside.specs.Shelf.{Lacks, Selects};
+ghost use Rattle.vir_outside.specs.Adapters.{folder_seen};
+ghost use Rattle.vir_outside.specs.Faults.{count_after};
+ghost use Rattle.vir_outside.specs.Shelf.{Faulted, IsLater, Lacks, Selects, to_read, to_select};
 
+use crate::trail::Trail;
 use crate::{Failed, Shelf};
 use std::fs;
 use std::io::Read;
@@ -20,6 +22,7 @@ pub struct FolderShelf<'a, R: Files> {
     rt: &'a R,
     file: Option<R::File>,
     faults: u64,
+    trail: Trail,
 }
 
 impl<'a, R: Files> Model for FolderShelf<'a, R> {
@@ -32,41 +35,39 @@ impl<'a, R: Files> Model for FolderShelf<'a, R> {
       selected = is_some s.file;
       left = option_and_then R.File.remaining s.file;
       faults = s.faults;
+      asked = s.trail.requests;
     } };
 }
 
 impl<'a, R: Files> FolderShelf<'a, R> {
     /// A shelf with nothing selected and no fault.
     pub fn new(rt: &'a R) -> FolderShelf<'a, R>
-        ensures { result ≡ record { selected = false; left = None; faults = 0 } }
+        ensures { result ≡ record { selected = false; left = None; faults = 0; asked = [] } }
     {
         FolderShelf {
             rt,
             file: None,
             faults: 0,
+            trail: Trail::new(),
         }
     }
 }
 
 impl<'a, R: Files> Shelf for FolderShelf<'a, R> {
-    ghost faults = { λ s. s.faults };
-
-    ghost selected = { λ s. s.selected };
-
-    ghost files = { λ _. None };
-
-    ghost rest = { λ _. None };
+    ghost seen = { λ s. folder_seen s };
 
     fn select(&mut self, name: &str) -> Result<(), Failed>
+        ensures asked { self.new.asked ≡ to_select name.now ∷ self.old.asked }
         ensures selected { OnOk result (IsTrue self.new.selected) }
-        ensures none_selected { OnErr result (self.new.selected ≡ false) }
         ensures content { OnOk result (Selects None name.now None) }
-        ensures later { self.old.faults ≤ self.new.faults }
-        ensures failed { OnErr result (Rose self.old.faults self.new.faults ⊎ Lacks None name.now) }
+        ensures none_selected { OnErr result (self.new.selected ≡ false) }
+        ensures failed { OnErr result (Faulted (folder_seen self.old) (folder_seen self.new) ⊎ Lacks None name.now) }
+        ensures later { IsLater (folder_seen self.old) (folder_seen self.new) }
 
         // Each failure counts once.
         ensures count { self.new.faults ≡ count_after self.old.faults result }
     {
+        self.trail = Trail::selecting(&self.trail, name.as_bytes());
         self.file = None;
         match fs::open(self.rt, name) {
             Ok(file) => {
@@ -85,12 +86,15 @@ impl<'a, R: Files> Shelf for FolderShelf<'a, R> {
         ensures bound { ReadsAtMost result buf.new }
         ensures bytes { ReadConsumes None None result buf.new }
         ensures selected { IsTrue self.new.selected }
-        ensures cause { HasCause self.old.faults self.new.faults result }
+        ensures asked { self.new.asked ≡ to_read ∷ self.old.asked }
+        ensures failed { OnErr result (Faulted (folder_seen self.old) (folder_seen self.new)) }
+        ensures later { IsLater (folder_seen self.old) (folder_seen self.new) }
 
         // What the file says is left of it loses what was given, and each failure counts once.
         ensures left { ReadConsumes self.old.left self.new.left result buf.new }
         ensures count { self.new.faults ≡ count_after self.old.faults result }
     {
+        self.trail = Trail::reading(&self.trail);
         match &mut self.file {
             Some(file) => match file.read(buf) {
                 Ok(count) => Ok(count),

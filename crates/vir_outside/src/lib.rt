@@ -21,6 +21,7 @@ mod stored;
 mod stream;
 #[cfg(test)]
 mod tests;
+mod trail;
 mod writing;
 
 pub use folder::FolderShelf;

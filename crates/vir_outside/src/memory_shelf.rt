@@ -1,15 +1,15 @@
 // A shelf in memory, which tells everything and fails at listed calls.
-ghost use Rattle.std.specs.Prelude.{◌≡◌, ◌⊎◌, ◌≤◌, ◌&&◌, [], ◌∷◌, ◌++◌, length, take, drop, min, not, false};
+ghost use Rattle.std.specs.Prelude.{◌≡◌, ◌⊎◌, ◌&&◌, [], ◌∷◌, ◌++◌, length, take, drop, min, not, false};
 ghost use Rattle.std.specs.Prelude.{None, Some, IsTrue, is_some, is_ok, IfOk, IfSome, OnOk, OnErr};
 ghost use Rattle.std.specs.Io.{ReadsAtMost};
 ghost use Rattle.std.specs.Io.KnownBytes.{Consumes, ReadConsumes};
 ghost use Rattle.std.specs.Option.{option_map};
-ghost use Rattle.vir_outside.specs.Faults.{Rose, HasCause};
-ghost use Rattle.vir_outside.specs.Memory.{after_select, after_read, is_next_listed};
-ghost use Rattle.vir_outside.specs.Shelf.{Lacks, Selects, content_of};
+ghost use Rattle.vir_outside.specs.Memory.{after_select, after_read, is_next_listed, memory_seen};
+ghost use Rattle.vir_outside.specs.Shelf.{Faulted, IsLater, Lacks, Selects, content_of, to_read, to_select};
 
 use crate::counted::count_call;
 use crate::stored::{StoredFile, copy_front, left_at, place_of};
+use crate::trail::Trail;
 use crate::{Failed, Shelf};
 use std::alloc::{AllocError, Global};
 use std::marker::Model;
@@ -27,6 +27,7 @@ pub struct MemoryShelf {
     faults: u64,
     chosen: Option<usize>,
     taken: usize,
+    trail: Trail,
 }
 
 impl Model for MemoryShelf {
@@ -40,6 +41,7 @@ impl Model for MemoryShelf {
       failing = s.failing.items;
       calls = s.calls;
       faults = s.faults;
+      asked = s.trail.requests;
       rest = rest_at s.files.items s.chosen s.taken;
     } };
 
@@ -49,7 +51,7 @@ impl Model for MemoryShelf {
 impl MemoryShelf {
     /// A shelf with no file, no listed call, no fault and nothing selected.
     pub fn new(alloc: Global) -> MemoryShelf
-        ensures { result ≡ record { files = []; failing = []; calls = 0; faults = 0; rest = None } }
+        ensures { result ≡ record { files = []; failing = []; calls = 0; faults = 0; asked = []; rest = None } }
     {
         MemoryShelf {
             alloc,
@@ -59,6 +61,7 @@ impl MemoryShelf {
             faults: 0,
             chosen: None,
             taken: 0,
+            trail: Trail::new(),
         }
     }
 
@@ -112,27 +115,23 @@ impl MemoryShelf {
 }
 
 impl Shelf for MemoryShelf {
-    ghost faults = { λ s. s.faults };
-
-    ghost selected = { λ s. is_some s.rest };
-
-    ghost files = { λ s. Some s.files };
-
-    ghost rest = { λ s. s.rest };
+    ghost seen = { λ s. memory_seen s };
 
     fn select(&mut self, name: &str) -> Result<(), Failed>
+        ensures asked { self.new.asked ≡ to_select name.now ∷ self.old.asked }
         ensures selected { OnOk result (IsTrue (is_some self.new.rest)) }
-        ensures none_selected { OnErr result (is_some self.new.rest ≡ false) }
         ensures content { OnOk result (Selects (Some self.old.files) name.now self.new.rest) }
-        ensures files { Some self.new.files ≡ Some self.old.files }
-        ensures later { self.old.faults ≤ self.new.faults }
-        ensures failed { OnErr result (Rose self.old.faults self.new.faults ⊎ Lacks (Some self.old.files) name.now) }
+        ensures none_selected { OnErr result (is_some self.new.rest ≡ false) }
+        ensures failed { OnErr result
+            (Faulted (memory_seen self.old) (memory_seen self.new) ⊎ Lacks (Some self.old.files) name.now) }
+        ensures later { IsLater (memory_seen self.old) (memory_seen self.new) }
 
         // Only a listed call and an unknown name fail.
         ensures answer { is_ok result
             ≡ (not (is_next_listed self.old.failing self.old.calls) && is_some (content_of self.old.files name.now)) }
         ensures exactly { self.new ≡ after_select self.old name.now }
     {
+        self.trail = Trail::selecting(&self.trail, name.as_bytes());
         self.chosen = None;
         if count_call(&self.failing, &mut self.calls, &mut self.faults) {
             return Err(Failed);
@@ -151,14 +150,16 @@ impl Shelf for MemoryShelf {
         ensures bound { ReadsAtMost result buf.new }
         ensures bytes { ReadConsumes self.old.rest self.new.rest result buf.new }
         ensures selected { IsTrue (is_some self.new.rest) }
-        ensures files { Some self.new.files ≡ Some self.old.files }
-        ensures cause { HasCause self.old.faults self.new.faults result }
+        ensures asked { self.new.asked ≡ to_read ∷ self.old.asked }
+        ensures failed { OnErr result (Faulted (memory_seen self.old) (memory_seen self.new)) }
+        ensures later { IsLater (memory_seen self.old) (memory_seen self.new) }
 
         // Only a listed call fails, and any other gives all that is left and fits.
         ensures answer { is_ok result ≡ not (is_next_listed self.old.failing self.old.calls) }
         ensures count { IfOk result (λ n. IfSome self.old.rest (λ bytes. n ≡ min (length buf.old) (length bytes))) }
         ensures exactly { self.new ≡ after_read self.old (length buf.old) }
     {
+        self.trail = Trail::reading(&self.trail);
         if count_call(&self.failing, &mut self.calls, &mut self.faults) {
             return Err(Failed);
         }

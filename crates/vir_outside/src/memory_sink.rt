@@ -4,7 +4,7 @@ ghost use Rattle.std.specs.Prelude.{IsTrue, IsErr, IfOk, OnOk, OnErr, Some};
 ghost use Rattle.std.specs.Io.{WritesAtMost};
 ghost use Rattle.std.specs.Io.KnownBytes.{WriteAppends};
 ghost use Rattle.vir_outside.specs.Faults.{HasCause, one_more};
-ghost use Rattle.vir_outside.specs.Memory.{is_next_listed};
+ghost use Rattle.vir_outside.specs.Memory.{is_next_listed, sink_seen};
 ghost use Rattle.vir_outside.specs.Sink.{CallsAtMost, TakesSome};
 
 use crate::counted::count_call;
@@ -83,11 +83,7 @@ impl MemorySink {
 }
 
 impl Sink for MemorySink {
-    ghost faults = { λ s. s.faults };
-
-    ghost written = { λ s. Some s.bytes };
-
-    ghost calls = { λ s. Some s.calls };
+    ghost seen = { λ s. sink_seen s };
 
     fn write(&mut self, piece: &[u8]) -> Result<usize, Failed>
         ensures bound { WritesAtMost result piece.now }

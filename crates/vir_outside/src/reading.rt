@@ -2,8 +2,8 @@
 ghost use Rattle.std.specs.Prelude.{◌≡◌, ◌⊎◌, ◌+◌, ◌<◌, ◌≤◌, ℕ, List, length};
 ghost use Rattle.std.specs.Prelude.{IsTrue, IsOk, IfOk, IfSome, IsErrOf};
 ghost use Rattle.std.specs.Io.KnownBytes.{Consumes};
-ghost use Rattle.vir_outside.specs.Faults.{Rose};
-ghost use Rattle.vir_outside.specs.Shelf.{Lacks, IsContent, IsLonger, TakesAtMost, told_content};
+ghost use Rattle.vir_outside.specs.Shelf.{AsksFor, Faulted, IsContent, IsLater, IsLonger, Lacks, ReadsOn};
+ghost use Rattle.vir_outside.specs.Shelf.{TakesAtMost, told_content};
 
 use crate::Shelf;
 use std::alloc::Global;
@@ -37,29 +37,28 @@ pub fn read_whole<S: Shelf>(
     name: &str,
     limit: usize,
 ) -> Result<Vec<u8>, ReadStop>
-    ensures content { IfOk result (λ bytes. IsContent (S.files shelf.old) name.now bytes.items) }
+    ensures content { IfOk result (λ bytes. IsContent (S.seen shelf.old).files name.now bytes.items) }
     ensures within { IfOk result (λ bytes. length bytes.items ≤ limit) }
     ensures fault { IsErrOf result ReadStop.Fault
-        → Rose (S.faults shelf.old) (S.faults shelf.new) ⊎ Lacks (S.files shelf.old) name.now }
-    ensures too_long { IsErrOf result ReadStop.TooLong → IsLonger (S.files shelf.old) name.now limit }
+        → Faulted (S.seen shelf.old) (S.seen shelf.new) ⊎ Lacks (S.seen shelf.old).files name.now }
+    ensures too_long { IsErrOf result ReadStop.TooLong → IsLonger (S.seen shelf.old).files name.now limit }
 
     // Where the files are told, the name decides the answer, unless a count rose or memory is wanted.
-    ensures missing { Lacks (S.files shelf.old) name.now → IsErrOf result ReadStop.Fault }
-    ensures longer { IfSome (told_content (S.files shelf.old) name.now) (λ bytes. limit < length bytes
+    ensures missing { Lacks (S.seen shelf.old).files name.now → IsErrOf result ReadStop.Fault }
+    ensures longer { IfSome (told_content (S.seen shelf.old).files name.now) (λ bytes. limit < length bytes
         → IsErrOf result ReadStop.TooLong
-        ⊎ Rose (S.faults shelf.old) (S.faults shelf.new)
+        ⊎ Faulted (S.seen shelf.old) (S.seen shelf.new)
         ⊎ IsErrOf result ReadStop.Memory) }
-    ensures completes { IfSome (told_content (S.files shelf.old) name.now) (λ bytes. length bytes ≤ limit
+    ensures completes { IfSome (told_content (S.seen shelf.old).files name.now) (λ bytes. length bytes ≤ limit
         → IsOk result
-        ⊎ Rose (S.faults shelf.old) (S.faults shelf.new)
+        ⊎ Faulted (S.seen shelf.old) (S.seen shelf.new)
         ⊎ IsErrOf result ReadStop.Memory) }
 
     // What the call leaves.
-    ensures selected { IsErrOf result ReadStop.Fault ⊎ IsTrue (S.selected shelf.new) }
-    ensures taken { TakesAtMost (S.files shelf.old) name.now
-        (S.selected shelf.new) (S.rest shelf.new) (limit + 1) }
-    ensures files { S.files shelf.new ≡ S.files shelf.old }
-    ensures later { S.faults shelf.old ≤ S.faults shelf.new }
+    ensures selected { IsErrOf result ReadStop.Fault ⊎ IsTrue (S.seen shelf.new).selected }
+    ensures taken { TakesAtMost (S.seen shelf.new) name.now (limit + 1) }
+    ensures asked { AsksFor (S.seen shelf.old) (S.seen shelf.new) name.now }
+    ensures later { IsLater (S.seen shelf.old) (S.seen shelf.new) }
 {
     shelf.select(name).map_err(|_| ReadStop::Fault)?;
     read_selected(alloc, shelf, limit)
@@ -77,16 +76,16 @@ fn room_for(left: usize) -> usize
 
 // The bytes that are left of the selected file, read to its end.
 fn read_selected<S: Shelf>(alloc: Global, shelf: &mut S, limit: usize) -> Result<Vec<u8>, ReadStop>
-    requires { IsTrue (S.selected shelf.old) }
-    ensures content { IfOk result (λ bytes. IfSome (S.rest shelf.old) (λ rest. rest ≡ bytes.items)) }
+    requires { IsTrue (S.seen shelf.old).selected }
+    ensures content { IfOk result (λ bytes. IfSome (S.seen shelf.old).rest (λ rest. rest ≡ bytes.items)) }
     ensures within { IfOk result (λ bytes. length bytes.items ≤ limit) }
-    ensures fault { IsErrOf result ReadStop.Fault → Rose (S.faults shelf.old) (S.faults shelf.new) }
-    ensures too_long { IsErrOf result ReadStop.TooLong → IfSome (S.rest shelf.old) (λ rest. limit < length rest) }
+    ensures fault { IsErrOf result ReadStop.Fault → Faulted (S.seen shelf.old) (S.seen shelf.new) }
+    ensures too_long { IsErrOf result ReadStop.TooLong → IfSome (S.seen shelf.old).rest (λ rest. limit < length rest) }
     ensures taken { (bytes : List ℕ) × (length bytes ≤ limit + 1)
-        × Consumes (S.rest shelf.old) (S.rest shelf.new) bytes }
-    ensures selected { IsTrue (S.selected shelf.new) }
-    ensures files { S.files shelf.new ≡ S.files shelf.old }
-    ensures later { S.faults shelf.old ≤ S.faults shelf.new }
+        × Consumes (S.seen shelf.old).rest (S.seen shelf.new).rest bytes }
+    ensures selected { IsTrue (S.seen shelf.new).selected }
+    ensures asked { ReadsOn (S.seen shelf.old) (S.seen shelf.new) }
+    ensures later { IsLater (S.seen shelf.old) (S.seen shelf.new) }
 {
     let mut whole = Vec::new(alloc);
     loop {

@@ -2,6 +2,7 @@
 ghost use Rattle.std.specs.Prelude.{◌≡◌, None};
 ghost use Rattle.std.specs.Io.{WritesAtMost};
 ghost use Rattle.std.specs.Io.KnownBytes.{WriteAppends};
+ghost use Rattle.vir_outside.specs.Adapters.{stream_seen};
 ghost use Rattle.vir_outside.specs.Faults.{HasCause, count_after};
 ghost use Rattle.vir_outside.specs.Sink.{CallsAtMost, TakesSome};
 
@@ -37,11 +38,7 @@ impl<W: Write> StreamSink<W> {
 }
 
 impl<W: Write> Sink for StreamSink<W> {
-    ghost faults = { λ s. s.faults };
-
-    ghost written = { λ _. None };
-
-    ghost calls = { λ _. None };
+    ghost seen = { λ s. stream_seen s };
 
     fn write(&mut self, piece: &[u8]) -> Result<usize, Failed>
         ensures bound { WritesAtMost result piece.now }

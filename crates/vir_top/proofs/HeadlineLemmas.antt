@@ -1,22 +1,22 @@
 -- What a report that is printed says.
-use Rattle.std.proofs.Common.{◌≡◌, ℕ, Bool, List, Option, None, Some, Result, Ok, Err, refl, sym, ap, subst, ◌∙◌}
+use Rattle.std.proofs.Common.{◌≡◌, ℕ, List, Option, None, Some, Result, Ok, Err, refl, ap, subst, ◌∙◌}
+use Rattle.std.proofs.Common.{Bool}
 use Rattle.vir_course.specs.Courses.{Course, and_then, gives, go_on}
-use Rattle.vir_course.specs.Reports.{Reported}
 use Rattle.vir_machine.specs.Runs.{BenchView, Run, served_by}
 use Rattle.vir_course.specs.Wordings.{IsWorded, Wording, prints, report_of}
 use Rattle.vir_course.specs.declared.stop.Stop.{Stop}
 use Rattle.vir_files.specs.Readings.{RuleProfile, profile_at, rule_and_profile_of, rule_at, rule_profile}
 use Rattle.vir_machine.specs.Uses.{first_unserved}
-use Rattle.vir_outside.specs.Shelf.{Files}
-use Rattle.vir_profile.specs.SocFiles.{File}
+use Rattle.vir_outside.specs.Shelf.{Files, ShelfView}
+use Rattle.vir_outside.specs.Sink.{SinkView}
 use Rattle.vir_term.specs.declared.leaf.Leaf.{Leaf}
 use Rattle.vir_term.specs.declared.leaf.LeafKind.{LeafKind}
-use Rattle.vir_term.specs.Tree.{Tree}
 use Rattle.vir_top.proofs.StatusLemmas.{call_printed}
 use Rattle.vir_top.specs.Calls.{AnswersWords, Calls}
 use Rattle.vir_words.specs.Command.{Command, report}
-use Rattle.vir_top.specs.CommandCourses.{command_course}
-use Rattle.vir_top.specs.Delivery.{Delivers, SinkView}
+use Rattle.vir_words.specs.declared.command.RuleProfileWork.TheVariants.{Report}
+use Rattle.vir_top.specs.CommandCourses.{command_course, rule_profile_course}
+use Rattle.vir_top.specs.Delivery.{Delivers}
 use Rattle.vir_top.specs.Headline.{ReportPrinted}
 use Rattle.vir_top.specs.Printed.{Printed}
 use Rattle.vir_counting.specs.Counting.{counting_course, report_course}
@@ -44,8 +44,8 @@ pub report_printed : (kinds : List (List LeafKind)) (files : Option Files) (rule
     → ReportPrinted files rule profile old new
 report_printed kinds files rule profile old new p =
     let contents = p.contents in
-    let both = and_then_ok (rule_and_profile_of contents rule profile) (λ (said : RuleProfile). report_course kinds
-    said.term said.file) p.wording p.end_is in
+    let both = and_then_ok (rule_and_profile_of contents rule profile) (rule_profile_course kinds Report) p.wording
+    p.end_is in
     let term = and_then_ok (rule_at contents 0 rule) (λ t. and_then (profile_at contents 1 profile)
     (λ f. gives (rule_profile t f))) both.0 both.1 in
     let file = and_then_ok (profile_at contents 1 profile) (λ f. gives (rule_profile term.0 f)) both.0 term.2 in
@@ -66,15 +66,15 @@ report_printed kinds files rule profile old new p =
     }
 
 -- ---- of a call
-pub call_reports : (words : Option Command) (files : Option Files) (read_rose untouched : Type 0)
-    (before after : BenchView) (selected : Bool) (rest : Option (List ℕ)) (status : ℕ)
-    (old new err_old err_new : SinkView) (unwritten untold : Type 0)
-    → Calls (AnswersWords words files read_rose untouched before after selected rest)
-    (λ given. Delivers given status old new err_old err_new unwritten untold)
+pub call_reports : {S O E : Type 0} (listed : Bool) (words : Option Command) (seen : S → ShelfView) (shelf left : S)
+    (before after : BenchView) (status : ℕ) (out : O → SinkView) (old new : O) (err : E → SinkView)
+    (err_old err_new : E)
+    → Calls (AnswersWords listed words seen shelf left before after)
+    (λ given. Delivers given status out old new err err_old err_new)
     → (rule profile : List ℕ) → words ≡ Some (report rule profile) → status ≡ 0
-    → ReportPrinted files rule profile old.written new.written
-call_reports words files read_rose untouched before after selected rest status old new err_old err_new unwritten untold
-    calls rule profile asks is =
-    report_printed (served_by before) files rule profile old.written new.written
-    (call_printed words files read_rose untouched before after selected rest status old new err_old err_new unwritten
-    untold calls (report rule profile) asks is)
+    → ReportPrinted (seen shelf).files rule profile (out old).written (out new).written
+call_reports listed words seen shelf left before after status out old new err err_old err_new calls rule profile asks
+    is =
+    report_printed (served_by before) (seen shelf).files rule profile (out old).written (out new).written
+    (call_printed listed words seen shelf left before after status out old new err err_old err_new calls
+    (report rule profile) asks is)

@@ -3,3 +3,4 @@ pub mod AnswerLemmas
 pub mod StatusLemmas
 pub mod HeadlineLemmas
 pub mod ServedLemmas
+pub mod DueLemmas

@@ -1,13 +1,13 @@
 -- A bench that serves every module is never told to lack a counter, whatever the shelf tells.
-use Rattle.std.proofs.Common.{◌≡◌, ◌⊎◌, ℕ, ◌+◌, Bool, List, [], ◌∷◌, Option, None, Some, Result, Ok, Err, refl, ap, ◌∙◌}
+use Rattle.std.proofs.Common.{Bool, IsTrue}
+use Rattle.std.proofs.Common.{◌≡◌, ◌⊎◌, ℕ, ◌+◌, List, [], ◌∷◌, Option, None, Some, Result, Ok, Err, refl, ap, ◌∙◌}
 use Rattle.std.proofs.Common.{inl, inr, sym, subst, arith}
 use Rattle.vir_batch.specs.Batches.{all_counted, batch_course, batch_unless, count_said, manifest_at, profile_counted}
 use Rattle.vir_batch.specs.Batches.{run_for}
 use Rattle.vir_batch.specs.BatchTexts.{Said, batch_text}
 use Rattle.vir_batch.specs.Kinds.{manifests, profiles_or_faults}
-use Rattle.vir_claims.specs.Claims.{check_course, listing_course, prove_course, refute_course, simplify_course}
-use Rattle.vir_cert.specs.Certs.{Cert}
-use Rattle.vir_counting.specs.Counting.{count_course, counting_course, position_course, report_course}
+use Rattle.vir_claims.specs.Claims.{check_course}
+use Rattle.vir_counting.specs.Counting.{counting_course}
 use Rattle.vir_counting.specs.DrillResults.{drill_terms, first_unserved_of}
 use Rattle.vir_course.specs.Courses.{Course, Follows, and_then, behind, gives, go_on}
 use Rattle.vir_course.specs.Steps.{Step}
@@ -18,23 +18,29 @@ use Rattle.vir_course.specs.declared.answer.Answer.TheVariants as answer
 use Rattle.vir_course.specs.declared.stop.Stop.{Stop}
 use Rattle.vir_course.specs.declared.stop.Stop.TheVariants as stop
 use Rattle.vir_files.specs.Contents.{Contents}
-use Rattle.vir_files.specs.Files.{Kind, accept, certificates, judge, profiles, read_as, rules}
-use Rattle.vir_files.specs.Performs.{Performs}
-use Rattle.vir_files.specs.Readings.{RuleProfile, RuleTwoProfiles, certificate_at, profile_at, rule_and_profile_of}
+use Rattle.vir_files.specs.Files.{Kind, accept, certificates, profiles, read_as, rules}
+use Rattle.vir_files.specs.Readings.{RuleProfile, certificate_at, profile_at, rule_and_profile_of}
 use Rattle.vir_files.specs.Readings.{rule_and_two_profiles_of, rule_at, rule_profile, rule_two_profiles}
 use Rattle.vir_machine.specs.Uses.{first_unserved, or_else}
-use Rattle.vir_outside.specs.Shelf.{Files}
+use Rattle.vir_outside.specs.Shelf.{Faulted, ShelfView}
+use Rattle.vir_outside.specs.Sink.{SinkView}
 use Rattle.vir_profile.specs.SocFiles.{File}
-use Rattle.vir_refute.specs.Cases.{one, pair}
-use Rattle.vir_refute.specs.Judged.{election_of}
+use Rattle.vir_refute.specs.Cases.{one}
 use Rattle.vir_term.specs.declared.leaf.Leaf.{Leaf}
 use Rattle.vir_term.specs.declared.leaf.LeafKind.{LeafKind}
 use Rattle.vir_term.specs.Tree.{Tree}
-use Rattle.vir_top.specs.Calls.{AnswersWords, Calls, IsUsage}
-use Rattle.vir_words.specs.Command.{Command, batch, check, count, drill, listing, position, prove, refute, refute_pair}
-use Rattle.vir_words.specs.Command.{report, simplify, synth}
-use Rattle.vir_top.specs.CommandCourses.{command_course}
-use Rattle.vir_top.specs.Delivery.{Delivers, SinkView}
+use Rattle.vir_top.specs.Calls.{AnswersWords, Calls}
+use Rattle.vir_words.specs.Command.{Command, batch, check, drill, on_profile, on_rule, on_rule_and_profile, refute_pair}
+use Rattle.vir_words.specs.Command.{synth}
+use Rattle.vir_words.specs.declared.command.ProfileWork.{ProfileWork}
+use Rattle.vir_words.specs.declared.command.ProfileWork.TheVariants.{Pairs, Position}
+use Rattle.vir_words.specs.declared.command.RuleProfileWork.{RuleProfileWork}
+use Rattle.vir_words.specs.declared.command.RuleProfileWork.TheVariants.{Count, Explain, Refute, Report}
+use Rattle.vir_words.specs.declared.command.RuleWork.{RuleWork}
+use Rattle.vir_words.specs.declared.command.RuleWork.TheVariants.{Listing, Prove, Simplify}
+use Rattle.vir_top.specs.CommandCourses.{command_course, pair_course, profile_course, rule_course}
+use Rattle.vir_top.specs.CommandCourses.{rule_profile_course}
+use Rattle.vir_top.specs.Delivery.{Delivers}
 
 -- ---- courses
 -- A course doesn't end for a missing counter.
@@ -124,45 +130,48 @@ counting_never : (unserved : Option Leaf) (runs : List Run) (wording : Wording) 
 counting_never None runs wording none text is = absurd cc
 counting_never (Some leaf) runs wording none text is = absurd cc
 
+-- what is done with a rule, and with a profile
+rule_work_never : (work : RuleWork) (t : Tree) → NeverLacks (rule_course work t)
+rule_work_never Listing t text is = absurd cc
+rule_work_never (Prove prop) t text is = absurd cc
+rule_work_never Simplify t text is = absurd cc
+
+profile_work_never : (work : ProfileWork) (f : File) → NeverLacks (profile_course work f)
+profile_work_never (Position weights kind) f text is = absurd cc
+profile_work_never Pairs f text is = absurd cc
+
 module _ (kinds : List (List LeafKind)) (served : (t : Tree) → first_unserved kinds t ≡ None) where
+  -- and with both
+  rule_profile_work_never : (work : RuleProfileWork) (s : RuleProfile)
+      → NeverLacks (rule_profile_course kinds work s)
+  rule_profile_work_never Count s = counting_never (first_unserved kinds s.term) _ _ (served s.term)
+  rule_profile_work_never Report s = counting_never (first_unserved kinds s.term) _ _ (served s.term)
+  rule_profile_work_never Explain s = λ text is. absurd cc
+  rule_profile_work_never (Refute prop) s = λ text is. absurd cc
+
   none_of : (terms : List Tree) → first_unserved_of kinds terms ≡ None
   none_of [] = refl
   none_of (t ∷ rest) = ap (λ o. or_else o (first_unserved_of kinds rest)) (served t) ∙ none_of rest
 
   command_never : (command : Command) (contents : Contents) → NeverLacks (command_course kinds command contents)
-  command_never (count rule profile) contents =
-      then_never (rule_and_profile_of contents rule profile) (λ (s : RuleProfile). count_course kinds s.term s.file)
-      (both_never contents rule profile) (λ s. counting_never (first_unserved kinds s.term) _ _ (served s.term))
-  command_never (report rule profile) contents =
-      then_never (rule_and_profile_of contents rule profile) (λ (s : RuleProfile). report_course kinds s.term s.file)
-      (both_never contents rule profile) (λ s. counting_never (first_unserved kinds s.term) _ _ (served s.term))
-  command_never (listing rule) contents =
-      then_never (rule_at contents 0 rule) listing_course (rule_never contents 0 rule)
-      (λ t text is. absurd cc)
+  command_never (synth size props modules) contents = λ text is. absurd cc
   command_never (drill seed lines alternatives) contents =
       counting_never (first_unserved_of kinds drill_terms) _ _ (none_of drill_terms)
-  command_never (prove rule prop) contents =
-      then_never (rule_at contents 0 rule) (λ (t : Tree). prove_course t prop) (rule_never contents 0 rule)
-      (λ t text is. absurd cc)
+  command_never (on_rule rule work) contents =
+      then_never (rule_at contents 0 rule) (rule_course work) (rule_never contents 0 rule) (rule_work_never work)
+  command_never (on_profile profile work) contents =
+      then_never (profile_at contents 0 profile) (profile_course work) (profile_never contents 0 profile)
+      (profile_work_never work)
+  command_never (on_rule_and_profile rule profile work) contents =
+      then_never (rule_and_profile_of contents rule profile) (rule_profile_course kinds work)
+      (both_never contents rule profile) (rule_profile_work_never work)
   command_never (check certificate) contents =
       then_never (certificate_at contents 0 certificate) check_course
       (read_never certificates (λ fault text is. absurd cc) certificate (contents 0 certificate))
       (λ c text is. absurd cc)
-  command_never (synth size props modules) contents = λ text is. absurd cc
-  command_never (position weights kind profile) contents =
-      then_never (profile_at contents 0 profile) (λ (f : File). position_course weights kind f)
-      (profile_never contents 0 profile) (λ f text is. absurd cc)
-  command_never (refute rule prop profile) contents =
-      then_never (rule_and_profile_of contents rule profile)
-      (λ (s : RuleProfile). refute_course s.term prop (one (election_of s.file.profile)))
-      (both_never contents rule profile) (λ s text is. absurd cc)
   command_never (refute_pair rule prop first second lifted) contents =
-      then_never (rule_and_two_profiles_of contents rule first second)
-      (λ (s : RuleTwoProfiles). refute_course s.term prop
-      (pair (election_of s.first.profile) (election_of s.second.profile) lifted))
+      then_never (rule_and_two_profiles_of contents rule first second) (pair_course prop lifted)
       (three_never contents rule first second) (λ s text is. absurd cc)
-  command_never (simplify rule) contents =
-      then_never (rule_at contents 0 rule) simplify_course (rule_never contents 0 rule) (λ t text is. absurd cc)
   command_never (batch rule manifest) contents =
       then_never (rule_at contents 0 rule)
       (λ (t : Tree). and_then (manifest_at contents 1 manifest) (λ names. batch_course kinds contents t names))
@@ -177,47 +186,48 @@ record NamesOne (given : Result Answer Stop) : Type 0 where
   text : List ℕ
   is : given ≡ Err (stop.NoCounter text)
 
-names_one : (given : Result Answer Stop) (status : ℕ) (old new err_old err_new : SinkView) (unwritten untold : Type 0)
-    → Delivers given status old new err_old err_new unwritten untold → status ≡ 8 → NamesOne given
-names_one (Ok (answer.Text text)) status old new err_old err_new unwritten untold (inl w) is =
+names_one : {O E : Type 0} (given : Result Answer Stop) (status : ℕ) (out : O → SinkView) (old new : O)
+    (err : E → SinkView) (err_old err_new : E) → Delivers given status out old new err err_old err_new → status ≡ 8
+    → NamesOne given
+names_one (Ok (answer.Text text)) status out old new err err_old err_new (inl w) is =
     let e : status ≡ 0 = w.status_is in absurd (omega arith)
-names_one (Ok (answer.Denial text)) status old new err_old err_new unwritten untold (inl w) is =
+names_one (Ok (answer.Denial text)) status out old new err err_old err_new (inl w) is =
     let e : status ≡ 1 = w.status_is in absurd (omega arith)
-names_one (Ok given) status old new err_old err_new unwritten untold (inr b) is =
+names_one (Ok given) status out old new err err_old err_new (inr b) is =
     let e : status ≡ 6 = b.status_is in absurd (omega arith)
-names_one (Err stop.Usage) status old new err_old err_new unwritten untold t is =
+names_one (Err stop.Usage) status out old new err err_old err_new t is =
     let e : status ≡ 2 = t.status_is in absurd (omega arith)
-names_one (Err stop.ReadFault) status old new err_old err_new unwritten untold t is =
+names_one (Err stop.ReadFault) status out old new err err_old err_new t is =
     let e : status ≡ 5 = t.status_is in absurd (omega arith)
-names_one (Err (stop.TextRefused fault)) status old new err_old err_new unwritten untold t is =
+names_one (Err (stop.TextRefused fault)) status out old new err err_old err_new t is =
     let e : status ≡ 3 = t.status_is in absurd (omega arith)
-names_one (Err (stop.ProfileRefused fault)) status old new err_old err_new unwritten untold t is =
+names_one (Err (stop.ProfileRefused fault)) status out old new err err_old err_new t is =
     let e : status ≡ 4 = t.status_is in absurd (omega arith)
-names_one (Err stop.WriteFault) status old new err_old err_new unwritten untold t is =
+names_one (Err stop.WriteFault) status out old new err err_old err_new t is =
     let e : status ≡ 6 = t.status_is in absurd (omega arith)
-names_one (Err stop.Memory) status old new err_old err_new unwritten untold t is =
+names_one (Err stop.Memory) status out old new err err_old err_new t is =
     let e : status ≡ 7 = t.status_is in absurd (omega arith)
-names_one (Err (stop.NoCounter text)) status old new err_old err_new unwritten untold t is =
+names_one (Err (stop.NoCounter text)) status out old new err err_old err_new t is =
     record { text = text; is = refl }
 
-pub never_eight : (words : Option Command) (files : Option Files) (rose untouched : Type 0) (before after : BenchView)
-    (selected : Bool) (rest : Option (List ℕ)) (status : ℕ) (old new err_old err_new : SinkView)
-    (unwritten untold : Type 0) → ((t : Tree) → first_unserved (served_by before) t ≡ None)
-    → Calls (AnswersWords words files rose untouched before after selected rest)
-    (λ given. Delivers given status old new err_old err_new unwritten untold) → status ≡ 8 → ⊥
-never_eight words files rose untouched before after selected rest status old new err_old err_new unwritten untold served
-    calls is = by words calls.answers
+pub never_eight : {S O E : Type 0} (listed : Bool) (words : Option Command) (seen : S → ShelfView) (shelf left : S)
+    (before after : BenchView) (status : ℕ) (out : O → SinkView) (old new : O) (err : E → SinkView)
+    (err_old err_new : E) → ((t : Tree) → first_unserved (served_by before) t ≡ None)
+    → Calls (AnswersWords listed words seen shelf left before after)
+    (λ given. Delivers given status out old new err err_old err_new) → status ≡ 8 → ⊥
+never_eight listed words seen shelf left before after status out old new err err_old err_new served calls is =
+    by words calls.answers
   where
     named : NamesOne calls.answer
-    named = names_one calls.answer status old new err_old err_new unwritten untold calls.delivers is
+    named = names_one calls.answer status out old new err err_old err_new calls.delivers is
 
-    usage : (calls.answer ≡ Err stop.Usage) ⊎ (calls.answer ≡ Err stop.Memory) → ⊥
+    usage : (calls.answer ≡ Err stop.Usage) ⊎ (IsTrue listed × (calls.answer ≡ Err stop.Memory)) → ⊥
     usage (inl e) = let same = sym e ∙ named.is in absurd cc
-    usage (inr e) = let same = sym e ∙ named.is in absurd cc
+    usage (inr (kept, e)) = let same = sym e ∙ named.is in absurd cc
 
-    by : (w : Option Command) → AnswersWords w files rose untouched before after selected rest calls.answer → ⊥
+    by : (w : Option Command) → AnswersWords listed w seen shelf left before after calls.answer → ⊥
     by None u = usage u.reason
     by (Some command) p =
-        let f = subst (λ (a : Result Answer Stop). Follows Tells rose
+        let f = subst (λ (a : Result Answer Stop). Follows Tells (Faulted (seen shelf) (seen left))
         (command_course (served_by before) command p.contents) p.made a) named.is p.follows in
         command_never (served_by before) served command p.contents named.text f.end_is

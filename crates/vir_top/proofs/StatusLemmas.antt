@@ -1,5 +1,6 @@
 -- What follows of an answer that is delivered, by its status.
-use Rattle.std.proofs.Common.{◌≡◌, ◌⊎◌, ℕ, Bool, List, Option, None, Some, Result, Ok, Err, refl, sym, ap, subst, ◌∙◌}
+use Rattle.std.proofs.Common.{◌⊎◌, Bool, IsTrue, None}
+use Rattle.std.proofs.Common.{◌≡◌, ℕ, List, Option, Some, Result, Ok, Err, refl, sym, ap, subst, ◌∙◌}
 use Rattle.std.proofs.Common.{inl, inr, arith}
 use Rattle.std.specs.Io.KnownBytes.{Appends}
 use Rattle.vir_course.specs.Courses.{Course, Follows}
@@ -13,12 +14,13 @@ use Rattle.vir_course.specs.declared.stop.Stop.TheVariants as stop
 use Rattle.vir_files.specs.Contents.{AreContents, Contents}
 use Rattle.vir_files.specs.Performs.{Performs}
 use Rattle.vir_outside.specs.Faults.{Rose}
-use Rattle.vir_outside.specs.Shelf.{Files}
-use Rattle.vir_top.specs.Calls.{AnswersWords, Calls}
+use Rattle.vir_outside.specs.Sink.{SinkView}
+use Rattle.vir_outside.specs.Shelf.{Faulted, Files, ShelfView}
+use Rattle.vir_top.specs.Calls.{AnswersWords, Calls, IsUsage}
 use Rattle.vir_words.specs.Command.{Command}
 use Rattle.vir_top.specs.CommandCourses.{command_course}
-use Rattle.vir_top.specs.Delivery.{Delivers, SinkView, stop_status}
-use Rattle.vir_top.specs.Printed.{IsDue, Printed, told_contents}
+use Rattle.vir_top.specs.Delivery.{Delivers, stop_status}
+use Rattle.vir_top.specs.Printed.{HasStatus, IsDue, IsUsageDue, Printed, told_contents}
 
 -- no reason to stop has status 0
 never_printed : (reason : Stop) → stop_status reason ≡ 0 → ⊥
@@ -38,31 +40,36 @@ record IsText (given : Result Answer Stop) (old new : Option (List ℕ)) : Type 
   is_text : reply_of of ≡ prints bytes
   appended : Appends old new bytes
 
-printed_text : (given : Result Answer Stop) (status : ℕ) (old new err_old err_new : SinkView)
-    (unwritten untold : Type 0) → Delivers given status old new err_old err_new unwritten untold → status ≡ 0
-    → IsText given old.written new.written
-printed_text (Ok (answer.Text text)) status old new err_old err_new unwritten untold (inl w) is =
-    record { of = answer.Text text; is_answer = refl; bytes = text.items; is_text = refl; appended = w.whole }
-printed_text (Ok (answer.Denial text)) status old new err_old err_new unwritten untold (inl w) is = let e : status ≡ 1 =
-    w.status_is in absurd (omega arith)
-printed_text (Ok given) status old new err_old err_new unwritten untold (inr b) is = let e : status ≡ 6 = b.status_is
-    in absurd (omega arith)
-printed_text (Err reason) status old new err_old err_new unwritten untold told is =
-    absurd (never_printed reason (sym told.status_is ∙ is))
+module _ {O E : Type 0} (status : ℕ) (out : O → SinkView) (old new : O) (err : E → SinkView) (err_old err_new : E)
+  where
+    abbrev DeliversIt : Result Answer Stop → Type 0
+    DeliversIt given = Delivers given status out old new err err_old err_new
 
-module _ (course : Contents → Course Wording) (files : Option Files) (read_rose untouched : Type 0)
-    (before after : BenchView) (selected : Bool) (rest : Option (List ℕ)) (status : ℕ)
-    (old new err_old err_new : SinkView) (unwritten untold : Type 0) where
-  abbrev DeliversIt : Result Answer Stop → Type 0
-  DeliversIt given = Delivers given status old new err_old err_new unwritten untold
+    printed_text : (given : Result Answer Stop) → DeliversIt given → status ≡ 0
+        → IsText given (out old).written (out new).written
+    printed_text (Ok (answer.Text text)) (inl w) is =
+        record { of = answer.Text text; is_answer = refl; bytes = text.items; is_text = refl; appended = w.whole }
+    printed_text (Ok (answer.Denial text)) (inl w) is =
+        let e : status ≡ 1 = w.status_is in absurd (omega arith)
+    printed_text (Ok given) (inr b) is = let e : status ≡ 6 = b.status_is in absurd (omega arith)
+    printed_text (Err reason) told is = absurd (never_printed reason (sym told.status_is ∙ is))
+
+module _ {S O E : Type 0} (course : Contents → Course Wording) (seen : S → ShelfView) (shelf left : S)
+    (before after : BenchView) (status : ℕ) (out : O → SinkView) (old new : O) (err : E → SinkView)
+    (err_old err_new : E) where
+  abbrev DeliversAll : Result Answer Stop → Type 0
+  DeliversAll given = Delivers given status out old new err err_old err_new
+
+  abbrev read_rose : Type 0
+  read_rose = Faulted (seen shelf) (seen left)
 
   abbrev PerformsIt : Result Answer Stop → Type 0
-  PerformsIt given = Performs course Tells files read_rose untouched before after selected rest given
+  PerformsIt given = Performs course Tells seen shelf left before after given
 
-  pub printed_of : (given : Result Answer Stop) → PerformsIt given → DeliversIt given → status ≡ 0
-      → Printed course files old.written new.written
+  pub printed_of : (given : Result Answer Stop) → PerformsIt given → DeliversAll given → status ≡ 0
+      → Printed course (seen shelf).files (out old).written (out new).written
   printed_of given p d is =
-      let t = printed_text given status old new err_old err_new unwritten untold d is in
+      let t = printed_text status out old new err err_old err_new given d is in
       let r = subst (λ (a : Result Answer Stop). Follows Tells read_rose (course p.contents) p.made a) t.is_answer
       p.follows in
       record {
@@ -77,19 +84,16 @@ module _ (course : Contents → Course Wording) (files : Option Files) (read_ros
 
   -- ---- what is due
   abbrev write_rose : Type 0
-  write_rose = Rose old.faults new.faults
+  write_rose = Rose (out old).faults (out new).faults
 
-  due_told : (given : Answer) (wording : Wording) → DeliversIt (Ok given) → IsDue (Ok wording) status read_rose
-      write_rose
-  due_told (answer.Text text) wording (inl w) = inr (inl (inl w.status_is))
-  due_told (answer.Denial text) wording (inl w) = inr (inl (inr w.status_is))
-  due_told given wording (inr b) = inl (inr b.failed)
-
-  ok_not_err : (end : Result Wording Stop) (wording : Wording) (reason : Stop) → end ≡ Ok wording → end ≡ Err reason → ⊥
-  ok_not_err end wording reason a b = cc
+  due_told : (given : Answer) (wording : Wording) → IsWorded wording (reply_of given) → DeliversAll (Ok given)
+      → IsDue (Ok wording) status read_rose write_rose
+  due_told given wording is (inl w) =
+      inr (inl (record { reply = reply_of given; worded = is; status_is = w.status_is }))
+  due_told given wording is (inr b) = inl (inr b.failed)
 
   -- of an end that steps lead to
-  due_stop : (end : Result Wording Stop) (reason : Stop) → end ≡ Err reason → DeliversIt (Err reason)
+  due_stop : (end : Result Wording Stop) (reason : Stop) → end ≡ Err reason → DeliversAll (Err reason)
       → IsDue end status read_rose write_rose
   due_stop (Ok wording) reason e d = absurd cc
   due_stop (Err other) reason e d = let same : reason ≡ other = cc in inr (inl (d.status_is ∙ ap stop_status same))
@@ -102,14 +106,14 @@ module _ (course : Contents → Course Wording) (files : Option Files) (read_ros
   due_rose (Ok wording) rose = inl (inl rose)
   due_rose (Err reason) rose = inl rose
 
-  due_ok : (end : Result Wording Stop) (wording : Wording) (given : Answer) → end ≡ Ok wording → DeliversIt (Ok given)
-      → IsDue end status read_rose write_rose
-  due_ok (Ok other) wording given e d = due_told given other d
-  due_ok (Err reason) wording given e d = absurd cc
+  due_ok : (end : Result Wording Stop) (wording : Wording) (given : Answer) → end ≡ Ok wording
+      → IsWorded wording (reply_of given) → DeliversAll (Ok given) → IsDue end status read_rose write_rose
+  due_ok end wording given e is d =
+      subst (λ (r : Result Wording Stop). IsDue r status read_rose write_rose) (sym e) (due_told given wording is d)
 
   due : (c : Course Wording) (made : List Step) (given : Result Answer Stop) → Follows Tells read_rose c made given
-      → DeliversIt given → IsDue c.end status read_rose write_rose
-  due c made (Ok given) f d = due_ok c.end f.value given f.end_is d
+      → DeliversAll given → IsDue c.end status read_rose write_rose
+  due c made (Ok given) f d = due_ok c.end f.value given f.end_is f.sees d
   due c made (Err stop.Usage) f d = absurd f
   due c made (Err stop.ReadFault) (inl (rose, begins)) d = due_rose c.end rose
   due c made (Err stop.ReadFault) (inr s) d = due_stop c.end stop.ReadFault s.end_is d
@@ -120,12 +124,14 @@ module _ (course : Contents → Course Wording) (files : Option Files) (read_ros
   due c made (Err (stop.NoCounter text)) f d = due_stop c.end (stop.NoCounter text) f.end_is d
 
   -- the contents of told files are theirs
-  same_contents : (all : Files) (contents : Contents) → files ≡ Some all → AreContents files contents → contents
+  same_contents : (all : Files) (contents : Contents) → (seen shelf).files ≡ Some all
+      → AreContents (seen shelf).files contents → contents
       ≡ told_contents all
   same_contents all contents is are = let told = subst (λ (fs : Option Files). AreContents fs contents) is are
       in (λ i place name. told place name i)
 
-  pub due_of_told : (all : Files) (given : Result Answer Stop) → files ≡ Some all → PerformsIt given → DeliversIt given
+  pub due_of_told : (all : Files) (given : Result Answer Stop) → (seen shelf).files ≡ Some all → PerformsIt given
+      → DeliversAll given
       → IsDue (course (told_contents all)).end status read_rose write_rose
   due_of_told all given is p d =
       let here : IsDue (course p.contents).end status read_rose write_rose = due (course p.contents) p.made given
@@ -134,23 +140,42 @@ module _ (course : Contents → Course Wording) (files : Option Files) (read_ros
       (same_contents all p.contents is p.are_contents) here
 
 -- ---- of a call
-module _ (words : Option Command) (files : Option Files) (read_rose untouched : Type 0) (before after : BenchView)
-    (selected : Bool) (rest : Option (List ℕ)) (status : ℕ) (old new err_old err_new : SinkView)
-    (unwritten untold : Type 0)
-    (calls : Calls (AnswersWords words files read_rose untouched before after selected rest)
-    (λ given. Delivers given status old new err_old err_new unwritten untold)) (command : Command) (asks : words
-    ≡ Some command) where
-  performs : Performs (command_course (served_by before) command) Tells files read_rose untouched before after selected
-      rest calls.answer
-  performs = subst (λ (o : Option Command). AnswersWords o files read_rose untouched before after selected rest
-      calls.answer) asks calls.answers
+module _ {S O E : Type 0} (listed : Bool) (words : Option Command) (seen : S → ShelfView) (shelf left : S)
+    (before after : BenchView) (status : ℕ) (out : O → SinkView) (old new : O) (err : E → SinkView)
+    (err_old err_new : E) (calls : Calls (AnswersWords listed words seen shelf left before after)
+    (λ given. Delivers given status out old new err err_old err_new)) where
+  -- words that are no command
+  pub call_usage : words ≡ None → IsUsageDue listed status
+  call_usage asks = by calls.answer calls.delivers u.reason
+    where
+      u : IsUsage listed shelf left before after calls.answer
+      u = subst (λ (o : Option Command). AnswersWords listed o seen shelf left before after calls.answer) asks
+          calls.answers
 
-  pub call_printed : status ≡ 0 → Printed (command_course (served_by before) command) files old.written new.written
-  call_printed is = printed_of (command_course (served_by before) command) files read_rose untouched before after
-      selected rest status old new err_old err_new unwritten untold calls.answer performs calls.delivers is
+      by : (given : Result Answer Stop) → Delivers given status out old new err err_old err_new
+          → (given ≡ Err stop.Usage) ⊎ (IsTrue listed × (given ≡ Err stop.Memory)) → IsUsageDue listed status
+      by given d (inl is) =
+          let told : Delivers (Err stop.Usage) status out old new err err_old err_new = rw is at d in
+          inl told.status_is
+      by given d (inr (kept, is)) =
+          let told : Delivers (Err stop.Memory) status out old new err err_old err_new = rw is at d in
+          inr (kept, told.status_is)
 
-  pub call_due : (all : Files) → files ≡ Some all
-      → IsDue (command_course (served_by before) command (told_contents all)).end status read_rose
-      (Rose old.faults new.faults)
-  call_due all is = due_of_told (command_course (served_by before) command) files read_rose untouched before after
-      selected rest status old new err_old err_new unwritten untold all calls.answer is performs calls.delivers
+  module _ (command : Command) (asks : words ≡ Some command) where
+    performs : Performs (command_course (served_by before) command) Tells seen shelf left before after calls.answer
+    performs =
+        subst (λ (o : Option Command). AnswersWords listed o seen shelf left before after calls.answer) asks
+        calls.answers
+
+    pub call_printed : status ≡ 0 → Printed (command_course (served_by before) command) (seen shelf).files
+        (out old).written (out new).written
+    call_printed is =
+        printed_of (command_course (served_by before) command) seen shelf left before after status out old new err
+        err_old err_new calls.answer performs calls.delivers is
+
+    pub call_due : (all : Files) → (seen shelf).files ≡ Some all
+        → IsDue (command_course (served_by before) command (told_contents all)).end status
+        (Faulted (seen shelf) (seen left)) (Rose (out old).faults (out new).faults)
+    call_due all is =
+        due_of_told (command_course (served_by before) command) seen shelf left before after status out old new err
+        err_old err_new all calls.answer is performs calls.delivers

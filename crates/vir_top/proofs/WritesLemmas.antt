@@ -1,22 +1,11 @@
 -- A text that is written piece by piece.
-use Rattle.std.proofs.Common.{ℕ, ◌≤◌, List, ◌++◌, Option, Result, Ok, Err, OnOk, OnErr, sym, ap, ◌∙◌, append_assoc}
-use Rattle.std.proofs.Common.{arith, inl, inr}
+use Rattle.std.proofs.Common.{ℕ, ◌≤◌, List, ◌++◌, Option, Result, Ok, Err, sym, ap, ◌∙◌, append_assoc, arith, inl, inr}
 use Rattle.std.specs.Io.KnownBytes.{Appends}
+use Rattle.vir_course.specs.declared.stop.Stop.{Stop}
 use Rattle.vir_outside.specs.Faults.{Rose}
-use Rattle.vir_outside.specs.Sink.{AppendsPrefix}
+use Rattle.vir_outside.specs.Sink.{AppendsPrefix, SinkView, Writes}
 use Rattle.vir_outside.proofs.Texts.{appends_more}
-use Rattle.vir_top.specs.Delivery.{Writes}
-
--- what a write of a whole text answers
-pub writes_whole : {E : Type 0} (before now : ℕ) (old new : Option (List ℕ)) (text : List ℕ)
-    (answer : Result (Unit {0}) E) → OnOk answer (Appends old new text) → OnErr answer (AppendsPrefix old new text)
-    → OnErr answer (Rose before now) → Writes before now old new text answer
-writes_whole before now old new text (Ok done) whole prefix failed = whole
-writes_whole before now old new text (Err e) whole prefix failed = (failed, prefix)
-
--- a count that rose has risen later too
-rose_later : (before mid now : ℕ) → Rose before mid → mid ≤ now → Rose before now
-rose_later before mid now rose later = omega arith
+use Rattle.vir_top.specs.Delivery.{AppendsLine, stop_line}
 
 -- a count that rose from a later one has risen
 later_rose : (before mid now : ℕ) → before ≤ mid → Rose mid now → Rose before now
@@ -40,16 +29,42 @@ prefix_more old mid new text piece first (front, back, parts, appended) = (
 )
 
 -- a further piece behind a text that was written whole
-pub writes_more : {E : Type 0} (before mid now : ℕ) (old between new : Option (List ℕ)) (text piece : List ℕ)
-    (answer : Result (Unit {0}) E) → before ≤ mid → Appends old between text
-    → OnOk answer (Appends between new piece) → OnErr answer (AppendsPrefix between new piece)
-    → OnErr answer (Rose mid now) → Writes before now old new (text ++ piece) answer
-writes_more before mid now old between new text piece (Ok done) later first whole prefix failed =
-    appends_more old between new text piece first whole
-writes_more before mid now old between new text piece (Err e) later first whole prefix failed =
-    (later_rose before mid now later failed, prefix_more old between new text piece first prefix)
+pub writes_more : {E : Type 0} (old mid new : SinkView) (text piece : List ℕ) (answer : Result (Unit {0}) E)
+    (done : Unit {0}) → (let r : Result (Unit {0}) E = Ok done in Writes old mid text r) → Writes mid new piece answer
+    → Writes old new (text ++ piece) answer
+writes_more old mid new text piece (Ok done) start w next =
+    let early : old.faults ≤ mid.faults = w.later in
+    let late : mid.faults ≤ new.faults = next.later in
+    record {
+      later = omega arith;
+      whole = appends_more old.written mid.written new.written text piece w.whole next.whole;
+      failed = tt;
+    }
+writes_more old mid new text piece (Err e) start w next =
+    let early : old.faults ≤ mid.faults = w.later in
+    let late : mid.faults ≤ new.faults = next.later in
+    record {
+      later = omega arith;
+      whole = tt;
+      failed = (
+        later_rose old.faults mid.faults new.faults early next.failed.0,
+        prefix_more old.written mid.written new.written text piece w.whole next.failed.1,
+      );
+    }
 
 -- and behind one that wasn't
-pub writes_less : (before now : ℕ) (old new : Option (List ℕ)) (text piece : List ℕ) → Rose before now
-    × AppendsPrefix old new text → Rose before now × AppendsPrefix old new (text ++ piece)
-writes_less before now old new text piece (rose, prefix) = (rose, prefix_stays old new text piece prefix)
+pub writes_less : {E : Type 0} (old new : SinkView) (text piece : List ℕ) (e : E)
+    → (let r : Result (Unit {0}) E = Err e in Writes old new text r)
+    → (let r : Result (Unit {0}) E = Err e in Writes old new (text ++ piece) r)
+writes_less old new text piece e w =
+    record {
+      later = w.later;
+      whole = tt;
+      failed = (w.failed.0, prefix_stays old.written new.written text piece w.failed.1);
+    }
+
+-- whatever is answered, a line is written or a prefix of it is
+pub writes_line : {E : Type 0} (old new : SinkView) (reason : Stop) (answer : Result (Unit {0}) E)
+    → Writes old new (stop_line reason) answer → AppendsLine old new reason
+writes_line old new reason (Ok done) w = record { later = w.later; appended = inl w.whole }
+writes_line old new reason (Err e) w = record { later = w.later; appended = inr w.failed }

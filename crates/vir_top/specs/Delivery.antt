@@ -1,13 +1,12 @@
 -- How an answer, or the reason why there is none, is told to two sinks, and the status.
-use Rattle.std.specs.Prelude.{◌≡◌, ◌⊎◌, ℕ, List, ◌++◌, codes, decimal, Result, Ok, Err}
+use Rattle.std.specs.Prelude.{◌≡◌, ◌⊎◌, ◌≤◌, ℕ, List, ◌++◌, codes, decimal, Result, Ok, Err}
 use Rattle.std.specs.Io.KnownBytes.{Appends}
-use Rattle.std.specs.declared.option.Option.{Option}
 use Rattle.vir_course.specs.Wordings.{Reply, reply_of, prints, denies}
 use Rattle.vir_course.specs.declared.answer.Answer.{Answer}
 use Rattle.vir_course.specs.declared.stop.Stop.{Stop}
 use Rattle.vir_course.specs.declared.stop.Stop.TheVariants as stop
 use Rattle.vir_outside.specs.Faults.{Rose}
-use Rattle.vir_outside.specs.Sink.{AppendsPrefix}
+use Rattle.vir_outside.specs.Sink.{AppendsPrefix, SinkView}
 use Rattle.vir_read.specs.Kinds as text_kinds
 use Rattle.vir_soc.specs.Kinds as profile_kinds
 
@@ -47,33 +46,23 @@ abbrev pub reply_status : Reply → ℕ
 reply_status (prints bytes) = 0
 reply_status (denies bytes) = 1
 
--- A text is written whole where that is answered, and else the count rose and a prefix of it is written.
-abbrev pub Writes : {E : Type 0} → ℕ → ℕ → Option (List ℕ) → Option (List ℕ) → List ℕ → Result (Unit {0}) E → Type 0
-Writes before now old new text (Ok done) = Appends old new text
-Writes before now old new text (Err failed) = Rose before now × AppendsPrefix old new text
-
--- A sink: its count of faults, and what it was given.
-pub record SinkView : Type 0 where
-  pub faults : ℕ
-  pub written : Option (List ℕ)
-
-abbrev pub sink : ℕ → Option (List ℕ) → SinkView
-sink faults written = record { faults = faults; written = written }
-
--- The line of a reason to stop is appended whole, or the count rose and a prefix of it is.
-abbrev pub AppendsLine : SinkView → SinkView → Stop → Type 0
-AppendsLine old new reason = Appends old.written new.written (stop_line reason)
-    ⊎ (Rose old.faults new.faults × AppendsPrefix old.written new.written (stop_line reason))
+-- The line of a reason to stop is appended whole, or the count rose and a prefix of it is. The count never falls.
+pub record AppendsLine (old new : SinkView) (reason : Stop) : Type 0 where
+  pub later : old.faults ≤ new.faults
+  pub appended : Appends old.written new.written (stop_line reason)
+      ⊎ (Rose old.faults new.faults × AppendsPrefix old.written new.written (stop_line reason))
 
 -- The reply is written whole, and nothing is told to the other sink.
 pub record Written (reply : Reply) (status : ℕ) (old new : SinkView) (untold : Type 0) : Type 0 where
   pub status_is : status ≡ reply_status reply
+  pub later : old.faults ≤ new.faults
   pub whole : Appends old.written new.written (reply_bytes reply)
   pub no_line : untold
 
 -- A write failed: a prefix of the reply is written, and the fault is told.
 pub record Broken (reply : Reply) (status : ℕ) (old new err_old err_new : SinkView) : Type 0 where
   pub status_is : status ≡ 6
+  pub later : old.faults ≤ new.faults
   pub failed : Rose old.faults new.faults
   pub prefix : AppendsPrefix old.written new.written (reply_bytes reply)
   pub line : AppendsLine err_old err_new stop.WriteFault
@@ -84,9 +73,11 @@ pub record Told (reason : Stop) (status : ℕ) (unwritten : Type 0) (err_old err
   pub nothing : unwritten
   pub line : AppendsLine err_old err_new reason
 
--- An answer, or the reason why there is none, is delivered with this status. `unwritten` says that the first sink is as
--- it was, and `untold` that the second is.
-abbrev pub Delivers : Result Answer Stop → ℕ → SinkView → SinkView → SinkView → SinkView → Type 0 → Type 0 → Type 0
-Delivers (Ok answer) status old new err_old err_new unwritten untold = Written (reply_of answer) status old new untold
-    ⊎ Broken (reply_of answer) status old new err_old err_new
-Delivers (Err reason) status old new err_old err_new unwritten untold = Told reason status unwritten err_old err_new
+-- An answer, or the reason why there is none, is delivered to two sinks with this status.
+abbrev pub Delivers : {O E : Type 0} → Result Answer Stop → ℕ → (O → SinkView) → O → O → (E → SinkView) → E → E
+    → Type 0
+Delivers (Ok answer) status out old new err err_old err_new =
+    Written (reply_of answer) status (out old) (out new) (err_new ≡ err_old)
+    ⊎ Broken (reply_of answer) status (out old) (out new) (err err_old) (err err_new)
+Delivers (Err reason) status out old new err err_old err_new =
+    Told reason status (new ≡ old) (err err_old) (err err_new)

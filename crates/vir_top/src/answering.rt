@@ -1,138 +1,117 @@
 // What the words ask for, done with the files of the shelf and on the bench.
-ghost use Rattle.std.specs.Prelude.{◌≡◌, ◌≤◌};
-ghost use Rattle.vir_machine.specs.Runs.{BenchView, seen, served_by};
 ghost use Rattle.vir_course.specs.Wordings.{Tells};
 ghost use Rattle.vir_files.specs.Performs.{Performs};
-ghost use Rattle.vir_outside.specs.Faults.{Rose};
+ghost use Rattle.vir_machine.specs.Runs.{BenchView, seen, served_by};
 ghost use Rattle.vir_top.specs.Calls.{AnswersWords};
-ghost use Rattle.vir_rules.specs.Named.{IsPropInRange};
-ghost use Rattle.vir_words.specs.Command.{IsInRange, check, command_in, command_seen, count, listing, position, prove};
-ghost use Rattle.vir_words.specs.Command.{report, simplify};
 ghost use Rattle.vir_top.specs.CommandCourses.{command_course};
+ghost use Rattle.vir_words.specs.Command.{IsForTwoProfiles, IsInRange, IsRuleProfileWork, are_listed, check};
+ghost use Rattle.vir_words.specs.Command.{command_in, command_seen, on_profile, on_rule, on_rule_and_profile};
+ghost use Rattle.vir_words.specs.Command.{refute_pair};
 
-use crate::refuting::{answer_refute, answer_refute_pair};
+use crate::works::{on_profile, on_rule, on_rule_and_profile};
 use std::alloc::Global;
 use vir_batch::batch_of_files;
-use vir_claims::{check, listing, prove, simplify, synth};
-use vir_counting::{count, drill, position, report};
+use vir_claims::{check, refute, synth};
+use vir_counting::drill;
 use vir_course::{Answer, Stop};
-use vir_files::{RuleAndProfile, certificate, profile, rule, rule_and_profile};
+use vir_files::{
+    RuleAndProfile, RuleAndTwoProfiles, certificate, profile, rule, rule_and_profile,
+    rule_and_two_profiles,
+};
 use vir_machine::Bench;
 use vir_outside::Shelf;
-use vir_positional::{Elimination, Weights};
+use vir_refute::Case;
 use vir_rules::Prop;
-use vir_words::{Command, read_words};
+use vir_words::{Command, ProfileWork, RuleProfileWork, RuleWork, read_words};
 
-// Answers `count` for the files of these names.
-fn answer_count<S: Shelf>(
+// Answers a command on the rule file of this name.
+fn answer_rule<S: Shelf>(
+    alloc: Global,
+    shelf: &mut S,
+    name: &str,
+    work: RuleWork,
+) -> Result<Answer, Stop>
+    ensures { (bench : BenchView) → Performs (command_course (served_by bench) (on_rule name.now work)) Tells
+        S.seen shelf.old shelf.new bench bench result }
+{
+    let rule = rule(alloc, shelf, name)?;
+    on_rule(alloc, &rule, work)
+}
+
+// Answers a command on the profile of this name.
+fn answer_profile<S: Shelf>(
+    alloc: Global,
+    shelf: &mut S,
+    name: &str,
+    work: ProfileWork,
+) -> Result<Answer, Stop>
+    ensures { (bench : BenchView) → Performs (command_course (served_by bench) (on_profile name.now work)) Tells
+        S.seen shelf.old shelf.new bench bench result }
+{
+    let file = profile(alloc, shelf, name)?;
+    on_profile(alloc, file, work)
+}
+
+// Answers a command on the rule file and the profile of these names.
+fn answer_rule_and_profile<S: Shelf>(
     alloc: Global,
     shelf: &mut S,
     bench: &mut Bench,
     rule_name: &str,
     profile_name: &str,
+    work: RuleProfileWork,
 ) -> Result<Answer, Stop>
-    ensures performs { Performs
-        (command_course (served_by (seen kinds made bench.old)) (count rule_name.now profile_name.now)) Tells
-        (S.files shelf.old) (Rose (S.faults shelf.old) (S.faults shelf.new)) (shelf.new ≡ shelf.old)
-        (seen kinds made bench.old) (seen kinds made bench.new) (S.selected shelf.new) (S.rest shelf.new) result }
-    ensures files { S.files shelf.new ≡ S.files shelf.old }
-    ensures later { S.faults shelf.old ≤ S.faults shelf.new }
+    requires { IsRuleProfileWork work }
+    ensures { Performs
+        (command_course (served_by (seen kinds made bench.old))
+        (on_rule_and_profile rule_name.now profile_name.now work)) Tells
+        S.seen shelf.old shelf.new (seen kinds made bench.old) (seen kinds made bench.new) result }
 {
     let RuleAndProfile { rule, file } = rule_and_profile(alloc, shelf, rule_name, profile_name)?;
-    count(alloc, bench, &rule, file)
-}
-
-// Answers `report` for the files of these names.
-fn answer_report<S: Shelf>(
-    alloc: Global,
-    shelf: &mut S,
-    bench: &mut Bench,
-    rule_name: &str,
-    profile_name: &str,
-) -> Result<Answer, Stop>
-    ensures performs { Performs
-        (command_course (served_by (seen kinds made bench.old)) (report rule_name.now profile_name.now)) Tells
-        (S.files shelf.old) (Rose (S.faults shelf.old) (S.faults shelf.new)) (shelf.new ≡ shelf.old)
-        (seen kinds made bench.old) (seen kinds made bench.new) (S.selected shelf.new) (S.rest shelf.new) result }
-    ensures files { S.files shelf.new ≡ S.files shelf.old }
-    ensures later { S.faults shelf.old ≤ S.faults shelf.new }
-{
-    let RuleAndProfile { rule, file } = rule_and_profile(alloc, shelf, rule_name, profile_name)?;
-    report(alloc, bench, &rule, file)
-}
-
-// Answers `listing` for the file of this name.
-fn answer_listing<S: Shelf>(alloc: Global, shelf: &mut S, rule_name: &str) -> Result<Answer, Stop>
-    ensures performs { (bench : BenchView) → Performs (command_course (served_by bench) (listing rule_name.now)) Tells
-        (S.files shelf.old) (Rose (S.faults shelf.old) (S.faults shelf.new)) (shelf.new ≡ shelf.old)
-        bench bench (S.selected shelf.new) (S.rest shelf.new) result }
-    ensures files { S.files shelf.new ≡ S.files shelf.old }
-    ensures later { S.faults shelf.old ≤ S.faults shelf.new }
-{
-    let rule = rule(alloc, shelf, rule_name)?;
-    listing(alloc, &rule)
-}
-
-// Answers `prove` for the rule file of this name and a property.
-fn answer_prove<S: Shelf>(
-    alloc: Global,
-    shelf: &mut S,
-    rule_name: &str,
-    prop: Prop,
-) -> Result<Answer, Stop>
-    requires { IsPropInRange prop }
-    ensures performs { (bench : BenchView)
-        → Performs (command_course (served_by bench) (prove rule_name.now prop)) Tells
-        (S.files shelf.old) (Rose (S.faults shelf.old) (S.faults shelf.new)) (shelf.new ≡ shelf.old)
-        bench bench (S.selected shelf.new) (S.rest shelf.new) result }
-    ensures files { S.files shelf.new ≡ S.files shelf.old }
-    ensures later { S.faults shelf.old ≤ S.faults shelf.new }
-{
-    let rule = rule(alloc, shelf, rule_name)?;
-    prove(alloc, &rule, prop)
+    on_rule_and_profile(alloc, bench, &rule, file, work)
 }
 
 // Answers `check` for the certificate of this name.
 fn answer_check<S: Shelf>(alloc: Global, shelf: &mut S, name: &str) -> Result<Answer, Stop>
-    ensures performs { (bench : BenchView) → Performs (command_course (served_by bench) (check name.now)) Tells
-        (S.files shelf.old) (Rose (S.faults shelf.old) (S.faults shelf.new)) (shelf.new ≡ shelf.old)
-        bench bench (S.selected shelf.new) (S.rest shelf.new) result }
-    ensures files { S.files shelf.new ≡ S.files shelf.old }
-    ensures later { S.faults shelf.old ≤ S.faults shelf.new }
+    ensures { (bench : BenchView) → Performs (command_course (served_by bench) (check name.now)) Tells
+        S.seen shelf.old shelf.new bench bench result }
 {
     let certificate = certificate(alloc, shelf, name)?;
     check(alloc, &certificate)
 }
 
-// Answers `position` for weights, a kind of elimination and the profile of this name.
-fn answer_position<S: Shelf>(
+// Answers `refute` for the files of a rule and of two profiles, of which the second is said to lift an alternative.
+fn answer_refute_pair<S: Shelf>(
     alloc: Global,
     shelf: &mut S,
-    weights: Weights,
-    kind: Elimination,
-    profile_name: &str,
+    rule_name: &str,
+    prop: Prop,
+    first_name: &str,
+    second_name: &str,
+    lifted: u16,
 ) -> Result<Answer, Stop>
-    ensures performs { (bench : BenchView)
-        → Performs (command_course (served_by bench) (position weights kind profile_name.now)) Tells
-        (S.files shelf.old) (Rose (S.faults shelf.old) (S.faults shelf.new)) (shelf.new ≡ shelf.old)
-        bench bench (S.selected shelf.new) (S.rest shelf.new) result }
-    ensures files { S.files shelf.new ≡ S.files shelf.old }
-    ensures later { S.faults shelf.old ≤ S.faults shelf.new }
+    requires { IsForTwoProfiles prop lifted }
+    ensures { (bench : BenchView) → Performs (command_course (served_by bench)
+        (refute_pair rule_name.now prop first_name.now second_name.now lifted)) Tells
+        S.seen shelf.old shelf.new bench bench result }
 {
-    let file = profile(alloc, shelf, profile_name)?;
-    position(alloc, weights, kind, file)
-}
-
-// Answers `simplify` for the rule file of this name.
-fn answer_simplify<S: Shelf>(alloc: Global, shelf: &mut S, rule_name: &str) -> Result<Answer, Stop>
-    ensures performs { (bench : BenchView) → Performs (command_course (served_by bench) (simplify rule_name.now)) Tells
-        (S.files shelf.old) (Rose (S.faults shelf.old) (S.faults shelf.new)) (shelf.new ≡ shelf.old)
-        bench bench (S.selected shelf.new) (S.rest shelf.new) result }
-    ensures files { S.files shelf.new ≡ S.files shelf.old }
-    ensures later { S.faults shelf.old ≤ S.faults shelf.new }
-{
-    let rule = rule(alloc, shelf, rule_name)?;
-    simplify(alloc, &rule)
+    let RuleAndTwoProfiles {
+        rule,
+        first,
+        second,
+    } = rule_and_two_profiles(alloc, shelf, rule_name, first_name, second_name)?;
+    let first = first.profile();
+    let second = second.profile();
+    refute(
+        alloc,
+        &rule,
+        prop,
+        &Case::Pair {
+            first,
+            second,
+            lifted,
+        },
+    )
 }
 
 // Answers a command.
@@ -143,39 +122,29 @@ fn answer_command<S: Shelf>(
     bench: &mut Bench,
 ) -> Result<Answer, Stop>
     requires { IsInRange (command_seen command) }
-    ensures performs { Performs
+    ensures { Performs
         (command_course (served_by (seen kinds made bench.old)) (command_seen command.entry)) Tells
-        (S.files shelf.old) (Rose (S.faults shelf.old) (S.faults shelf.new)) (shelf.new ≡ shelf.old)
-        (seen kinds made bench.old) (seen kinds made bench.new) (S.selected shelf.new) (S.rest shelf.new) result }
-    ensures files { S.files shelf.new ≡ S.files shelf.old }
-    ensures later { S.faults shelf.old ≤ S.faults shelf.new }
+        S.seen shelf.old shelf.new (seen kinds made bench.old) (seen kinds made bench.new) result }
 {
     match command {
-        Command::Count { rule, profile } => answer_count(alloc, shelf, bench, rule, profile),
-        Command::Report { rule, profile } => answer_report(alloc, shelf, bench, rule, profile),
-        Command::Listing { rule } => answer_listing(alloc, shelf, rule),
-        Command::Drill {
-            seed,
-            lines,
-            alternatives,
-        } => drill(alloc, bench, seed, lines, alternatives),
-        Command::Prove { rule, prop } => answer_prove(alloc, shelf, rule, prop),
-        Command::Check { certificate } => answer_check(alloc, shelf, certificate),
         Command::Synth {
             size,
             props,
             leaves,
         } => synth(alloc, size, &props, &leaves),
-        Command::Position {
-            weights,
-            kind,
-            profile,
-        } => answer_position(alloc, shelf, weights, kind, profile),
-        Command::Refute {
+        Command::Drill {
+            seed,
+            lines,
+            alternatives,
+        } => drill(alloc, bench, seed, lines, alternatives),
+        Command::OnRule { rule, work } => answer_rule(alloc, shelf, rule, work),
+        Command::OnProfile { profile, work } => answer_profile(alloc, shelf, profile, work),
+        Command::OnRuleAndProfile {
             rule,
-            prop,
             profile,
-        } => answer_refute(alloc, shelf, rule, prop, profile),
+            work,
+        } => answer_rule_and_profile(alloc, shelf, bench, rule, profile, work),
+        Command::Check { certificate } => answer_check(alloc, shelf, certificate),
         Command::RefutePair {
             rule,
             prop,
@@ -183,7 +152,6 @@ fn answer_command<S: Shelf>(
             second,
             lifted,
         } => answer_refute_pair(alloc, shelf, rule, prop, first, second, lifted),
-        Command::Simplify { rule } => answer_simplify(alloc, shelf, rule),
         Command::Batch { rule, manifest } => batch_of_files(alloc, shelf, bench, rule, manifest),
     }
 }
@@ -195,11 +163,8 @@ pub fn answer<S: Shelf>(
     shelf: &mut S,
     bench: &mut Bench,
 ) -> Result<Answer, Stop>
-    ensures answers { AnswersWords (command_in words.now)
-        (S.files shelf.old) (Rose (S.faults shelf.old) (S.faults shelf.new)) (shelf.new ≡ shelf.old)
-        (seen kinds made bench.old) (seen kinds made bench.new) (S.selected shelf.new) (S.rest shelf.new) result }
-    ensures files { S.files shelf.new ≡ S.files shelf.old }
-    ensures later { S.faults shelf.old ≤ S.faults shelf.new }
+    ensures { AnswersWords (are_listed words.now) (command_in words.now)
+        S.seen shelf.old shelf.new (seen kinds made bench.old) (seen kinds made bench.new) result }
 {
     match read_words(alloc, words) {
         Ok(Some(command)) => answer_command(alloc, command, shelf, bench),

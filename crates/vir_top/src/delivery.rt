@@ -1,9 +1,9 @@
 // An answer, or the reason why there is none, told to both sinks.
-ghost use Rattle.std.specs.Prelude.{◌≡◌, ◌⊎◌, ◌≤◌, ◌++◌, ℕ, List, codes};
-ghost use Rattle.std.specs.declared.option.Option.{Option};
+ghost use Rattle.std.specs.Prelude.{◌≡◌, ◌⊎◌, ◌++◌, ℕ, List, codes};
 ghost use Rattle.vir_course.specs.Wordings.{reply_of};
-ghost use Rattle.vir_top.specs.Delivery.{AppendsLine, Broken, Delivers, Writes, Written, placed_line, reply_bytes};
-ghost use Rattle.vir_top.specs.Delivery.{reply_status, sink, stop_line, stop_status};
+ghost use Rattle.vir_outside.specs.Sink.{SinkView, Writes};
+ghost use Rattle.vir_top.specs.Delivery.{AppendsLine, Broken, Delivers, Written, placed_line, reply_bytes};
+ghost use Rattle.vir_top.specs.Delivery.{reply_status, stop_line, stop_status};
 
 use crate::status::{
     DENIED, NO_COUNTER, OUT_OF_MEMORY, PRINTED, PROFILE_REFUSED, READ_FAULT, TEXT_REFUSED,
@@ -30,10 +30,8 @@ fn stop_status(reason: &Stop) -> u8
 
 // Writes a further piece behind what was written of a text, if that was.
 fn and_write<E: Sink>(err: &mut E, written: Result<(), Failed>, piece: &[u8]) -> Result<(), Failed>
-    ensures writes { (before : ℕ) (old : Option (List ℕ)) (text : List ℕ) → before ≤ E.faults err.old
-        → Writes before (E.faults err.old) old (E.written err.old) text written
-        → Writes before (E.faults err.new) old (E.written err.new) (text ++ piece.now) result }
-    ensures later { E.faults err.old ≤ E.faults err.new }
+    ensures { (old : SinkView) (text : List ℕ) → Writes old (E.seen err.old) text written
+        → Writes old (E.seen err.new) (text ++ piece.now) result }
 {
     match written {
         Ok(()) => write_whole(err, piece),
@@ -49,9 +47,7 @@ fn write_placed<E: Sink>(
     unit: &[u8],
     place: u64,
 ) -> Result<(), Failed>
-    ensures writes { Writes (E.faults err.old) (E.faults err.new) (E.written err.old) (E.written err.new)
-        (placed_line what.now kind.now unit.now place) result }
-    ensures later { E.faults err.old ≤ E.faults err.new }
+    ensures { Writes (E.seen err.old) (E.seen err.new) (placed_line what.now kind.now unit.now place) result }
 {
     let mut buffer = Buffer::new();
     let written = write_whole(err, what);
@@ -63,9 +59,7 @@ fn write_placed<E: Sink>(
 
 // Writes the line that names a module which no counter serves. It takes no memory.
 fn write_unserved<E: Sink>(err: &mut E, text: &[u8]) -> Result<(), Failed>
-    ensures writes { Writes (E.faults err.old) (E.faults err.new) (E.written err.old) (E.written err.new)
-        (codes "no counter for " ++ text.now ++ codes "\n") result }
-    ensures later { E.faults err.old ≤ E.faults err.new }
+    ensures { Writes (E.seen err.old) (E.seen err.new) (codes "no counter for " ++ text.now ++ codes "\n") result }
 {
     let written = write_whole(err, b"no counter for ");
     let written = and_write(err, written, text);
@@ -74,9 +68,7 @@ fn write_unserved<E: Sink>(err: &mut E, text: &[u8]) -> Result<(), Failed>
 
 // Writes the line of a reason to stop.
 fn write_line<E: Sink>(err: &mut E, reason: &Stop) -> Result<(), Failed>
-    ensures writes { Writes (E.faults err.old) (E.faults err.new) (E.written err.old) (E.written err.new)
-        (stop_line reason.now) result }
-    ensures later { E.faults err.old ≤ E.faults err.new }
+    ensures { Writes (E.seen err.old) (E.seen err.new) (stop_line reason.now) result }
 {
     match reason {
         Stop::Usage => write_whole(err, b"usage fault\n"),
@@ -99,9 +91,7 @@ fn write_line<E: Sink>(err: &mut E, reason: &Stop) -> Result<(), Failed>
 // the line can be written changes no status. It takes no memory.
 fn tell_stop<E: Sink>(err: &mut E, reason: &Stop) -> u8
     ensures status { result ≡ stop_status reason.now }
-    ensures line { AppendsLine (sink (E.faults err.old) (E.written err.old))
-        (sink (E.faults err.new) (E.written err.new)) reason.now }
-    ensures later { E.faults err.old ≤ E.faults err.new }
+    ensures line { AppendsLine (E.seen err.old) (E.seen err.new) reason.now }
 {
     let _ = write_line(err, reason);
     stop_status(reason)
@@ -129,13 +119,8 @@ fn answer_status(answer: &Answer) -> u8
 
 // Writes an answer to `out`, and answers its status; where that fails, tells it.
 fn write_answer<O: Sink, E: Sink>(out: &mut O, err: &mut E, answer: &Answer) -> u8
-    ensures written { Written (reply_of answer.now) result
-        (sink (O.faults out.old) (O.written out.old)) (sink (O.faults out.new) (O.written out.new)) (err.new ≡ err.old)
-        ⊎ Broken (reply_of answer.now) result
-        (sink (O.faults out.old) (O.written out.old)) (sink (O.faults out.new) (O.written out.new))
-        (sink (E.faults err.old) (E.written err.old)) (sink (E.faults err.new) (E.written err.new)) }
-    ensures later { O.faults out.old ≤ O.faults out.new }
-    ensures err_later { E.faults err.old ≤ E.faults err.new }
+    ensures { Written (reply_of answer.now) result (O.seen out.old) (O.seen out.new) (err.new ≡ err.old)
+        ⊎ Broken (reply_of answer.now) result (O.seen out.old) (O.seen out.new) (E.seen err.old) (E.seen err.new) }
 {
     match write_whole(out, bytes_of(answer)) {
         Ok(()) => answer_status(answer),
@@ -145,12 +130,7 @@ fn write_answer<O: Sink, E: Sink>(out: &mut O, err: &mut E, answer: &Answer) -> 
 
 /// Delivers an answer, or the reason why there is none, and answers the status.
 pub fn deliver<O: Sink, E: Sink>(out: &mut O, err: &mut E, answer: &Result<Answer, Stop>) -> u8
-    ensures delivers { Delivers answer.now result
-        (sink (O.faults out.old) (O.written out.old)) (sink (O.faults out.new) (O.written out.new))
-        (sink (E.faults err.old) (E.written err.old)) (sink (E.faults err.new) (E.written err.new))
-        (out.new ≡ out.old) (err.new ≡ err.old) }
-    ensures later { O.faults out.old ≤ O.faults out.new }
-    ensures err_later { E.faults err.old ≤ E.faults err.new }
+    ensures { Delivers answer.now result O.seen out.old out.new E.seen err.old err.new }
 {
     match answer {
         Ok(answer) => write_answer(out, err, answer),

@@ -10,10 +10,12 @@
 
 mod answering;
 mod delivery;
-mod refuting;
+mod laws;
 mod status;
 mod top;
+mod works;
 
 pub use delivery::deliver;
+pub use laws::accepted_files_are_counted;
 pub use status::{OUT_OF_MEMORY, USAGE_FAULT};
 pub use top::virage;

@@ -1,14 +1,14 @@
 // The whole program over what is handed in: the top call, its headline first.
-ghost use Rattle.std.specs.Prelude.{◌≡◌, ◌≤◌, ℕ, List, Some};
+ghost use Rattle.std.specs.Prelude.{◌≡◌, ℕ, List, None, Some};
 ghost use Rattle.vir_machine.specs.Runs.{seen, served_by};
 ghost use Rattle.vir_outside.specs.Faults.{Rose};
-ghost use Rattle.vir_outside.specs.Shelf.{Files};
+ghost use Rattle.vir_outside.specs.Shelf.{Faulted, Files};
 ghost use Rattle.vir_top.specs.Calls.{AnswersWords, Calls};
-ghost use Rattle.vir_words.specs.Command.{Command, command_in, report};
+ghost use Rattle.vir_words.specs.Command.{Command, are_listed, command_in, report};
 ghost use Rattle.vir_top.specs.CommandCourses.{command_course};
-ghost use Rattle.vir_top.specs.Delivery.{Delivers, sink};
+ghost use Rattle.vir_top.specs.Delivery.{Delivers};
 ghost use Rattle.vir_top.specs.Headline.{ReportPrinted};
-ghost use Rattle.vir_top.specs.Printed.{IsDue, Printed, told_contents};
+ghost use Rattle.vir_top.specs.Printed.{IsDue, IsUsageDue, Printed, told_contents};
 
 use crate::answering::answer;
 use crate::delivery::deliver;
@@ -29,29 +29,26 @@ pub fn virage<S: Shelf, O: Sink, E: Sink>(
     // The headline. Where `report` answers 0, its text is appended: the rule's meaning of the profile, and of each
     // property its first derivation, and so it is true of that meaning, or the reasons why there is none.
     ensures reports { (rule profile : List ℕ) → command_in words.now ≡ Some (report rule profile) → result ≡ 0
-        → ReportPrinted (S.files shelf.old) rule profile (O.written out.old) (O.written out.new) }
+        → ReportPrinted (S.seen shelf.old).files rule profile (O.seen out.old).written (O.seen out.new).written }
     // What each command prints with status 0, and what that affirms.
     ensures printed { (command : Command) → command_in words.now ≡ Some command → result ≡ 0
-        → Printed (command_course (served_by (seen kinds made bench.old)) command) (S.files shelf.old)
-        (O.written out.old) (O.written out.new) }
-    // Of told files: the status is the one that the course asks for, or a count rose, or memory was wanting.
-    ensures due { (command : Command) (all : Files) → command_in words.now ≡ Some command → S.files shelf.old ≡ Some all
+        → Printed (command_course (served_by (seen kinds made bench.old)) command) (S.seen shelf.old).files
+        (O.seen out.old).written (O.seen out.new).written }
+    // Of told files: the status is the one that the course asks for, 0 for a text and 1 for a denial that is so; or a
+    // count rose, or memory was wanting.
+    ensures due { (command : Command) (all : Files)
+        → command_in words.now ≡ Some command → (S.seen shelf.old).files ≡ Some all
         → IsDue (command_course (served_by (seen kinds made bench.old)) command (told_contents all)).end result
-        (Rose (S.faults shelf.old) (S.faults shelf.new)) (Rose (O.faults out.old) (O.faults out.new)) }
+        (Faulted (S.seen shelf.old) (S.seen shelf.new)) (Rose (O.seen out.old).faults (O.seen out.new).faults) }
+    // Words that are no command.
+    ensures usage { command_in words.now ≡ None → IsUsageDue (are_listed words.now) result }
     // The whole: there is an answer, that of the course that the words, the contents of the files and the bench come
-    // to, and it is delivered. All clauses above follow.
+    // to, and it is delivered. The shelf is asked for the files of that course alone, its files stay, and no count
+    // falls. All clauses above follow.
     ensures calls { Calls
-        (AnswersWords (command_in words.now)
-        (S.files shelf.old) (Rose (S.faults shelf.old) (S.faults shelf.new)) (shelf.new ≡ shelf.old)
-        (seen kinds made bench.old) (seen kinds made bench.new) (S.selected shelf.new) (S.rest shelf.new))
-        (λ answer. Delivers answer result
-        (sink (O.faults out.old) (O.written out.old)) (sink (O.faults out.new) (O.written out.new))
-        (sink (E.faults err.old) (E.written err.old)) (sink (E.faults err.new) (E.written err.new))
-        (out.new ≡ out.old) (err.new ≡ err.old)) }
-    // The files stay, and no count falls.
-    ensures files { S.files shelf.new ≡ S.files shelf.old }
-    ensures later { (S.faults shelf.old ≤ S.faults shelf.new) × (O.faults out.old ≤ O.faults out.new)
-        × (E.faults err.old ≤ E.faults err.new) }
+        (AnswersWords (are_listed words.now) (command_in words.now) S.seen shelf.old shelf.new
+        (seen kinds made bench.old) (seen kinds made bench.new))
+        (λ answer. Delivers answer result O.seen out.old out.new E.seen err.old err.new) }
 {
     let answer = answer(alloc, words, shelf, bench);
     deliver(out, err, &answer)

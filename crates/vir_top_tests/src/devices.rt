@@ -148,13 +148,7 @@ struct Noting<S: Shelf> {
 }
 
 impl<S: Shelf> Shelf for Noting<S> {
-    ghost faults = { λ noting. S.faults noting.shelf };
-
-    ghost selected = { λ noting. S.selected noting.shelf };
-
-    ghost files = { λ noting. S.files noting.shelf };
-
-    ghost rest = { λ noting. S.rest noting.shelf };
+    ghost seen = { λ noting. S.seen noting.shelf };
 
     fn select(&mut self, name: &str) -> Result<(), Failed> {
         self.shelf.select(name)
@@ -179,8 +173,8 @@ fn a_profile_is_read_in_pieces(rt: HostRuntime) -> Result<(), AllocError> {
     let profile = long_profile(rt.alloc())?;
     let mut shelf = full_shelf(rt.alloc(), PLURALITY, &profile)?;
     expect_call(&rt, rt.alloc(), COUNT, &mut shelf, 0, FIRST_WINS, b"")?;
-    // Two files are selected; the rule is read in one piece and the profile in two, each to its end.
-    assert!(rt; shelf.calls() == 7);
+    // Two files are selected; the rule is read in one piece and the profile in nine, each to its end.
+    assert!(rt; shelf.calls() == 14);
     Ok(())
 }
 
@@ -196,6 +190,6 @@ fn no_read_is_given_more_than_a_piece(rt: HostRuntime) -> Result<(), AllocError>
     let status = status_of(rt.alloc(), COUNT, &mut shelf, &mut out, &mut err)?;
     assert!(rt; status == 0);
     assert!(rt; out.bytes() == FIRST_WINS);
-    assert!(rt; shelf.largest == 65_536);
+    assert!(rt; shelf.largest == 8_192);
     Ok(())
 }

@@ -14,6 +14,8 @@ mod claims;
 #[cfg(test)]
 mod devices;
 #[cfg(test)]
+mod explanations;
+#[cfg(test)]
 mod positions;
 #[cfg(test)]
 mod reports;

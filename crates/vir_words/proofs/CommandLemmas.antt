@@ -17,7 +17,8 @@ use Rattle.vir_refute.specs.Violations.{is_on_lifts}
 use Rattle.vir_words.specs.Command.{Command, IsForOneProfile, IsInRange, batch, check, command_in, command_of}
 use Rattle.vir_words.specs.Command.{command_of_five, command_of_one, command_of_three, command_of_two, command_seen}
 use Rattle.vir_words.specs.Command.{count, drill, drill_of, drill_words, is_on_one, listing, position, position_of}
-use Rattle.vir_words.specs.Command.{prove, prove_of, refute, refute_of, refute_pair, refute_pair_of, report, simplify}
+use Rattle.vir_words.specs.Command.{prove, prove_of, refute, refute_of, refute_pair, refute_pair_of, report}
+use Rattle.vir_words.specs.Command.{simplify, explain, pairs}
 use Rattle.vir_words.specs.Command.{synth, synth_of, synth_words}
 use Rattle.vir_words.specs.WordLeaves.{default_leaves, leaf_of, leaves_of}
 use Rattle.vir_words.specs.WordLists.{comma, list_of, semicolon}
@@ -273,8 +274,10 @@ one_in_range name first c e =
     chosen (bytes_eq name (codes "check")) (Some (check first)) _ c (λ is. just (check first) c tt is)
     (λ others. chosen (bytes_eq name (codes "listing")) (Some (listing first)) _ c
     (λ is. just (listing first) c tt is)
-    (λ last. chosen (bytes_eq name (codes "simplify")) (Some (simplify first)) None c
-    (λ is. just (simplify first) c tt is) (λ is. nothing c is) last) others) e
+    (λ more. chosen (bytes_eq name (codes "simplify")) (Some (simplify first)) _ c
+    (λ is. just (simplify first) c tt is)
+    (λ last. chosen (bytes_eq name (codes "pairs")) (Some (pairs first)) None c
+    (λ is. just (pairs first) c tt is) (λ is. nothing c is) last) more) others) e
 
 two_in_range : (name first second : List ℕ) (c : Command) → command_of_two name first second ≡ Some c → IsInRange c
 two_in_range name first second c e =
@@ -285,8 +288,10 @@ two_in_range name first second c e =
     (λ is. prove_in_range first (prop_of second) c (λ p word. word_is_in_range second p word) is)
     (λ rest. chosen (bytes_eq name (codes "synth")) (synth_words first second (Some default_leaves)) _ c
     (λ is. synth_words_in_range first second (Some default_leaves) c (λ leaves same. defaults leaves same) is)
-    (λ last. chosen (bytes_eq name (codes "batch")) (Some (batch first second)) None c
-    (λ is. just (batch first second) c tt is) (λ is. nothing c is) last) rest) more) others) e
+    (λ further. chosen (bytes_eq name (codes "batch")) (Some (batch first second)) _ c
+    (λ is. just (batch first second) c tt is)
+    (λ last. chosen (bytes_eq name (codes "explain")) (Some (explain first second)) None c
+    (λ is. just (explain first second) c tt is) (λ is. nothing c is) last) further) rest) more) others) e
   where
     defaults : (leaves : List Leaf) → Some default_leaves ≡ Some leaves → AreLeavesInRange leaves
     defaults leaves same = let one : default_leaves ≡ leaves = cc in subst AreLeavesInRange one defaults_are

@@ -1,6 +1,6 @@
 -- The command line.
 use Rattle.std.specs.Prelude.{ℕ, ◌≡◌, ◌≢◌, ◌≤◌, Bool, true, false, List, [], ◌∷◌, length, None, Some, codes, map}
-use Rattle.std.specs.Prelude.{string_bytes, not, if◌then◌else◌}
+use Rattle.std.specs.Prelude.{◌||◌, string_bytes, not, if◌then◌else◌}
 use Rattle.std.specs.List.{AllByRecursion}
 use Rattle.std.specs.Str.{bytes_eq}
 use Rattle.std.specs.declared.option.Option.{Option}
@@ -19,35 +19,72 @@ use Rattle.vir_words.specs.WordNumbers.{number_within}
 use Rattle.vir_words.specs.WordProps.{prop_of, props_of}
 use Rattle.vir_words.specs.WordWeights.{elimination_of, weights_of}
 use Rattle.vir_words.specs.declared.command.Command.{Command as Borrowed}
-use Rattle.vir_words.specs.declared.command.Command.TheVariants.{Count, Report, Prove, Check, Synth, Listing, Drill}
-use Rattle.vir_words.specs.declared.command.Command.TheVariants.{Position, Refute, RefutePair, Simplify, Batch}
+use Rattle.vir_words.specs.declared.command.Command.TheVariants.{Batch, Check, Drill, OnProfile, OnRule}
+use Rattle.vir_words.specs.declared.command.Command.TheVariants.{OnRuleAndProfile, RefutePair, Synth}
+use Rattle.vir_words.specs.declared.command.ProfileWork.{ProfileWork}
+use Rattle.vir_words.specs.declared.command.ProfileWork.TheVariants.{Pairs, Position}
+use Rattle.vir_words.specs.declared.command.RuleProfileWork.{RuleProfileWork}
+use Rattle.vir_words.specs.declared.command.RuleProfileWork.TheVariants.{Count, Explain, Refute, Report}
+use Rattle.vir_words.specs.declared.command.RuleWork.{RuleWork}
+use Rattle.vir_words.specs.declared.command.RuleWork.TheVariants.{Listing, Prove, Simplify}
 
--- a command
+-- a command: files by their names, and what is done with what they say
 pub data Command : Type 0 where
-  -- counts a profile with a rule, by the names of their files
-  count : List ℕ → List ℕ → Command
-  -- reports on a rule and a profile, by the names of their files
-  report : List ℕ → List ℕ → Command
-  -- proves a property of a rule, by the name of its file
-  prove : List ℕ → Prop → Command
-  -- checks a certificate, by the name of its file
-  check : List ℕ → Command
   -- searches for a rule of at most this size that has these properties and is composed of these modules
   synth : ℕ → List Prop → List Leaf → Command
-  -- prints the counting code of a rule, by the name of its file
-  listing : List ℕ → Command
   -- counts a generated profile with the rules of drill, by its seed, its number of lines and its number of alternatives
   drill : ℕ → ℕ → ℕ → Command
-  -- eliminates by the positional score of these weights on a profile, by the name of its file
-  position : List ℕ → Elimination → List ℕ → Command
-  -- judges whether a profile shows that a rule lacks a property, by the names of their files
-  refute : List ℕ → Prop → List ℕ → Command
-  -- the same of two profiles, the second of which is said to lift this alternative
+  -- works on a rule
+  on_rule : List ℕ → RuleWork → Command
+  -- works on a profile
+  on_profile : List ℕ → ProfileWork → Command
+  -- works on a rule and a profile
+  on_rule_and_profile : List ℕ → List ℕ → RuleProfileWork → Command
+  -- checks a certificate
+  check : List ℕ → Command
+  -- judges whether two profiles, the second of which is said to lift this alternative, show that a rule lacks a
+  -- property
   refute_pair : List ℕ → Prop → List ℕ → List ℕ → ℕ → Command
-  -- shortens a rule, by the name of its file
-  simplify : List ℕ → Command
-  -- counts the profiles that a manifest names with a rule, by the names of their files
+  -- counts the profiles that a manifest names with a rule
   batch : List ℕ → List ℕ → Command
+
+-- ---- works on known files
+
+-- prints the counting code of a rule
+abbrev pub listing : List ℕ → Command
+listing rule = on_rule rule Listing
+
+-- proves a property of a rule
+abbrev pub prove : List ℕ → Prop → Command
+prove rule prop = on_rule rule (Prove prop)
+
+-- shortens a rule
+abbrev pub simplify : List ℕ → Command
+simplify rule = on_rule rule Simplify
+
+-- eliminates by the positional score of these weights on a profile
+abbrev pub position : List ℕ → Elimination → List ℕ → Command
+position weights kind profile = on_profile profile (Position weights kind)
+
+-- tells how many voters put one alternative before another on a profile
+abbrev pub pairs : List ℕ → Command
+pairs profile = on_profile profile Pairs
+
+-- counts a profile with a rule
+abbrev pub count : List ℕ → List ℕ → Command
+count rule profile = on_rule_and_profile rule profile Count
+
+-- reports on a rule and a profile
+abbrev pub report : List ℕ → List ℕ → Command
+report rule profile = on_rule_and_profile rule profile Report
+
+-- tells how a rule comes to its result on a profile
+abbrev pub explain : List ℕ → List ℕ → Command
+explain rule profile = on_rule_and_profile rule profile Explain
+
+-- judges whether a profile shows that a rule lacks a property
+abbrev pub refute : List ℕ → Prop → List ℕ → Command
+refute rule prop profile = on_rule_and_profile rule profile (Refute prop)
 
 -- ---- the words of each command
 
@@ -110,7 +147,8 @@ abbrev pub command_of_one : List ℕ → List ℕ → Option Command
 command_of_one name first =
     if bytes_eq name (codes "check") then Some (check first)
     else (if bytes_eq name (codes "listing") then Some (listing first)
-    else (if bytes_eq name (codes "simplify") then Some (simplify first) else None))
+    else (if bytes_eq name (codes "simplify") then Some (simplify first)
+    else (if bytes_eq name (codes "pairs") then Some (pairs first) else None)))
 
 -- the command of this name on two words
 abbrev pub command_of_two : List ℕ → List ℕ → List ℕ → Option Command
@@ -119,7 +157,8 @@ command_of_two name first second =
     else (if bytes_eq name (codes "report") then Some (report first second)
     else (if bytes_eq name (codes "prove") then prove_of first (prop_of second)
     else (if bytes_eq name (codes "synth") then synth_words first second (Some default_leaves)
-    else (if bytes_eq name (codes "batch") then Some (batch first second) else None))))
+    else (if bytes_eq name (codes "batch") then Some (batch first second)
+    else (if bytes_eq name (codes "explain") then Some (explain first second) else None)))))
 
 -- the command of this name on three words
 abbrev pub command_of_three : List ℕ → List ℕ → List ℕ → List ℕ → Option Command
@@ -151,19 +190,24 @@ command_of (name ∷ first ∷ second ∷ third ∷ fourth ∷ fifth ∷ sixth �
 abbrev pub command_in : {Z : Type 0} → List (String Z) → Option Command
 command_in words = command_of (map string_bytes words)
 
+-- whether a command of this name has words that are kept in lists; no other takes memory to be read
+abbrev pub is_listed : List ℕ → Bool
+is_listed name = bytes_eq name (codes "synth") || bytes_eq name (codes "position")
+
+-- the same of words, the first of which is the name
+abbrev pub are_listed : {Z : Type 0} → List (String Z) → Bool
+are_listed [] = false
+are_listed (name ∷ rest) = is_listed (string_bytes name)
+
 -- a command of the code, which borrows its names
 abbrev pub command_seen : Borrowed → Command
-command_seen (Count rule profile) = count rule.now profile.now
-command_seen (Report rule profile) = report rule.now profile.now
-command_seen (Prove rule prop) = prove rule.now prop
-command_seen (Check certificate) = check certificate.now
 command_seen (Synth size props leaves) = synth size props.items leaves.items
-command_seen (Listing rule) = listing rule.now
 command_seen (Drill seed lines alternatives) = drill seed lines alternatives
-command_seen (Position weights kind profile) = position weights kind profile.now
-command_seen (Refute rule prop profile) = refute rule.now prop profile.now
+command_seen (OnRule rule work) = on_rule rule.now work
+command_seen (OnProfile profile work) = on_profile profile.now work
+command_seen (OnRuleAndProfile rule profile work) = on_rule_and_profile rule.now profile.now work
+command_seen (Check certificate) = check certificate.now
 command_seen (RefutePair rule prop first second lifted) = refute_pair rule.now prop first.now second.now lifted
-command_seen (Simplify rule) = simplify rule.now
 command_seen (Batch rule manifest) = batch rule.now manifest.now
 
 -- ---- what a command is given
@@ -191,17 +235,31 @@ pub record IsForTwoProfiles (prop : Prop) (lifted : ℕ) : Type 0 where
   pub numbered : 1 ≤ lifted
   pub small : lifted ≤ 1024
 
+-- What is done with a rule is given a property in range.
+abbrev pub IsRuleWork : RuleWork → Type 0
+IsRuleWork Listing = Unit {0}
+IsRuleWork (Prove prop) = IsPropInRange prop
+IsRuleWork Simplify = Unit {0}
+
+-- What is done with a profile is given weights.
+abbrev pub IsProfileWork : ProfileWork → Type 0
+IsProfileWork (Position weights kind) = are_weights weights ≡ true
+IsProfileWork Pairs = Unit {0}
+
+-- What is done with a rule and a profile is given a property that one profile is for.
+abbrev pub IsRuleProfileWork : RuleProfileWork → Type 0
+IsRuleProfileWork Count = Unit {0}
+IsRuleProfileWork Report = Unit {0}
+IsRuleProfileWork Explain = Unit {0}
+IsRuleProfileWork (Refute prop) = IsForOneProfile prop
+
 -- The numbers of a command are within its limits, and so are its properties and modules.
 abbrev pub IsInRange : Command → Type 0
-IsInRange (count rule profile) = Unit {0}
-IsInRange (report rule profile) = Unit {0}
-IsInRange (prove rule prop) = IsPropInRange prop
-IsInRange (check certificate) = Unit {0}
 IsInRange (synth size props leaves) = IsSearchable size props leaves
-IsInRange (listing rule) = Unit {0}
 IsInRange (drill seed lines alternatives) = (lines ≤ 100000) × (1 ≤ alternatives) × (alternatives ≤ 128)
-IsInRange (position weights kind profile) = are_weights weights ≡ true
-IsInRange (refute rule prop profile) = IsForOneProfile prop
+IsInRange (on_rule rule work) = IsRuleWork work
+IsInRange (on_profile profile work) = IsProfileWork work
+IsInRange (on_rule_and_profile rule profile work) = IsRuleProfileWork work
+IsInRange (check certificate) = Unit {0}
 IsInRange (refute_pair rule prop first second lifted) = IsForTwoProfiles prop lifted
-IsInRange (simplify rule) = Unit {0}
 IsInRange (batch rule manifest) = Unit {0}

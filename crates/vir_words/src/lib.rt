@@ -18,7 +18,7 @@ mod word_lists;
 mod word_number;
 mod word_prop;
 
-pub use command::Command;
+pub use command::{Command, ProfileWork, RuleProfileWork, RuleWork};
 pub use laws::{
     commands_are_in_range, default_modules_are_27, printed_modules_are_words,
     printed_properties_are_words, words_are_printed_modules, words_are_printed_properties,

@@ -1,13 +1,14 @@
 // The words of the command line, read.
-ghost use Rattle.std.specs.Prelude.{◌≡◌, IfOk, IfSome, Some, option_map};
-ghost use Rattle.vir_words.specs.Command.{IsInRange, command_in, command_of_five, command_of_one, command_of_three};
-ghost use Rattle.vir_words.specs.Command.{command_of_two, command_seen, drill_words, position_of, prove_of};
-ghost use Rattle.vir_words.specs.Command.{synth_words};
+ghost use Rattle.std.specs.Prelude.{◌≡◌, IfOk, IfSome, IsTrue, OnErr, Some, option_map};
+ghost use Rattle.vir_words.specs.Command.{IsInRange, are_listed, command_in, command_of_five, command_of_one};
+ghost use Rattle.vir_words.specs.Command.{command_of_three, command_of_two, command_seen};
+ghost use Rattle.vir_words.specs.Command.{drill_words, is_listed, position_of};
+ghost use Rattle.vir_words.specs.Command.{prove_of, synth_words};
 ghost use Rattle.vir_words.specs.WordLeaves.{leaves_of};
 ghost use Rattle.vir_words.specs.WordProps.{prop_of};
 ghost use Rattle.vir_words.specs.WordWeights.{elimination_of, weights_of};
 
-use crate::command::Command;
+use crate::command::{Command, ProfileWork, RuleProfileWork, RuleWork};
 use crate::default_leaves::default_leaves;
 use crate::refutation::{read_refute, read_refute_pair};
 use crate::word_lists::{word_leaves, word_props, word_weights};
@@ -48,7 +49,10 @@ fn read_prove<'a>(rule: &'a str, prop: &str) -> Option<Command<'a>>
     ensures { option_map command_seen result ≡ prove_of rule.now (prop_of prop.now) }
 {
     let prop = word_prop(prop)?;
-    Some(Command::Prove { rule, prop })
+    Some(Command::OnRule {
+        rule,
+        work: RuleWork::Prove { prop },
+    })
 }
 
 // The command `synth` of these modules, of the size and the properties that these words are.
@@ -102,10 +106,9 @@ fn read_position<'a>(
         return Ok(None);
     };
     match word_weights(alloc, weights) {
-        Ok(Some(weights)) => Ok(Some(Command::Position {
-            weights,
-            kind,
+        Ok(Some(weights)) => Ok(Some(Command::OnProfile {
             profile,
+            work: ProfileWork::Position { weights, kind },
         })),
         Ok(None) => Ok(None),
         Err(e) => Err(e),
@@ -118,8 +121,18 @@ fn read_one<'a>(name: &str, first: &'a str) -> Option<Command<'a>>
 {
     match name {
         "check" => Some(Command::Check { certificate: first }),
-        "listing" => Some(Command::Listing { rule: first }),
-        "simplify" => Some(Command::Simplify { rule: first }),
+        "listing" => Some(Command::OnRule {
+            rule: first,
+            work: RuleWork::Listing,
+        }),
+        "simplify" => Some(Command::OnRule {
+            rule: first,
+            work: RuleWork::Simplify,
+        }),
+        "pairs" => Some(Command::OnProfile {
+            profile: first,
+            work: ProfileWork::Pairs,
+        }),
         _ => None,
     }
 }
@@ -131,16 +144,20 @@ fn read_two<'a>(
     first: &'a str,
     second: &'a str,
 ) -> Result<Option<Command<'a>>, AllocError>
-    ensures { IfOk result (λ found. option_map command_seen found ≡ command_of_two name.now first.now second.now) }
+    ensures command { IfOk result (λ found.
+        option_map command_seen found ≡ command_of_two name.now first.now second.now) }
+    ensures memory { OnErr result (IsTrue (is_listed name.now)) }
 {
     match name {
-        "count" => Ok(Some(Command::Count {
+        "count" => Ok(Some(Command::OnRuleAndProfile {
             rule: first,
             profile: second,
+            work: RuleProfileWork::Count,
         })),
-        "report" => Ok(Some(Command::Report {
+        "report" => Ok(Some(Command::OnRuleAndProfile {
             rule: first,
             profile: second,
+            work: RuleProfileWork::Report,
         })),
         "prove" => Ok(read_prove(first, second)),
         "synth" => {
@@ -150,6 +167,11 @@ fn read_two<'a>(
         "batch" => Ok(Some(Command::Batch {
             rule: first,
             manifest: second,
+        })),
+        "explain" => Ok(Some(Command::OnRuleAndProfile {
+            rule: first,
+            profile: second,
+            work: RuleProfileWork::Explain,
         })),
         _ => Ok(None),
     }
@@ -180,8 +202,9 @@ fn read_three<'a>(
     second: &'a str,
     third: &'a str,
 ) -> Result<Option<Command<'a>>, AllocError>
-    ensures { IfOk result (λ found. option_map command_seen found
+    ensures command { IfOk result (λ found. option_map command_seen found
         ≡ command_of_three name.now first.now second.now third.now) }
+    ensures memory { OnErr result (IsTrue (is_listed name.now)) }
 {
     match name {
         "synth" => read_synth_of(alloc, first, second, third),
@@ -211,10 +234,12 @@ fn read_five<'a>(
 }
 
 /// The command that the words are; None exactly where they are no command. Words that are kept in a list
-/// take memory to be read, so it can be wanting before it is known whether they are a command.
+/// take memory to be read, so it can be wanting before it is known whether they are a command: this is so
+/// of `synth` and `position` alone.
 pub fn read_words(alloc: Global, words: &[String]) -> Result<Option<Command<'_>>, AllocError>
     ensures command { IfOk result (λ command. option_map command_seen command ≡ command_in words.now) }
     ensures range { IfOk result (λ command. IfSome command (λ c. IsInRange (command_seen c))) }
+    ensures memory { OnErr result (IsTrue (are_listed words.now)) }
 {
     match words {
         [name, first] => Ok(read_one(name, first)),

@@ -4,7 +4,7 @@ ghost use Rattle.vir_words.specs.Command.{command_seen, is_on_one, refute_of, re
 ghost use Rattle.vir_words.specs.WordNumbers.{number_within};
 ghost use Rattle.vir_words.specs.WordProps.{prop_of};
 
-use crate::command::Command;
+use crate::command::{Command, RuleProfileWork};
 use crate::word_number::word_number;
 use crate::word_prop::word_prop;
 use vir_refute::is_on_lifts;
@@ -29,10 +29,10 @@ pub fn read_refute<'a>(rule: &'a str, prop: &str, profile: &'a str) -> Option<Co
 {
     let prop = word_prop(prop)?;
     if is_on_one(prop) {
-        Some(Command::Refute {
+        Some(Command::OnRuleAndProfile {
             rule,
-            prop,
             profile,
+            work: RuleProfileWork::Refute { prop },
         })
     } else {
         None

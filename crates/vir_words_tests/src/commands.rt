@@ -24,6 +24,10 @@ const FILES: &[Row] = &[
     (&["batch", "r.vir", "names"], "batch r.vir names"),
     (&["batch", "r.vir"], ""),
     (&["batch", "r.vir", "names", "more"], ""),
+    (&["explain", "r.vir", "p.soc"], "explain r.vir p.soc"),
+    (&["explain", "r.vir"], ""),
+    (&["pairs", "p.soc"], "pairs p.soc"),
+    (&["pairs", "r.vir", "p.soc"], ""),
     (&["count", "r.vir", "p.soc", "q.soc", "more"], ""),
     (&["count", "r.vir", "p.soc", "q.soc", "s.soc", "1"], ""),
 ];

@@ -4,7 +4,7 @@ use std::process::Abort;
 use vir_positional::{Elimination, Weights};
 use vir_report::push_prop;
 use vir_term::{Leaf, Prop, push_leaf, push_number};
-use vir_words::{Command, read_words};
+use vir_words::{Command, ProfileWork, RuleProfileWork, RuleWork, read_words};
 
 // Words, and the command with what it holds; empty where they are none.
 pub(crate) type Row = (&'static [&'static str], &'static str);
@@ -139,10 +139,45 @@ fn name_of(kind: Elimination) -> &'static str {
     }
 }
 
-// A command of more than names of files.
-fn push_asked(text: &mut Vec<u8>, command: &Command) -> Result<(), AllocError> {
+// What is asked of a rule.
+fn push_rule_work(text: &mut Vec<u8>, rule: &str, work: RuleWork) -> Result<(), AllocError> {
+    match work {
+        RuleWork::Listing => push_one(text, "listing", rule),
+        RuleWork::Prove { prop } => push_prove(text, rule, prop),
+        RuleWork::Simplify => push_one(text, "simplify", rule),
+    }
+}
+
+// What is asked of a profile.
+fn push_profile_work(
+    text: &mut Vec<u8>,
+    profile: &str,
+    work: &ProfileWork,
+) -> Result<(), AllocError> {
+    match work {
+        ProfileWork::Position { weights, kind } => push_position(text, weights, *kind, profile),
+        ProfileWork::Pairs => push_one(text, "pairs", profile),
+    }
+}
+
+// What is asked of a rule and a profile.
+fn push_rule_profile_work(
+    text: &mut Vec<u8>,
+    rule: &str,
+    profile: &str,
+    work: RuleProfileWork,
+) -> Result<(), AllocError> {
+    match work {
+        RuleProfileWork::Count => push_two(text, "count", rule, profile),
+        RuleProfileWork::Report => push_two(text, "report", rule, profile),
+        RuleProfileWork::Explain => push_two(text, "explain", rule, profile),
+        RuleProfileWork::Refute { prop } => push_refute(text, rule, prop, profile),
+    }
+}
+
+// The command with what it holds.
+fn push_command(text: &mut Vec<u8>, command: &Command) -> Result<(), AllocError> {
     match command {
-        Command::Prove { rule, prop } => push_prove(text, rule, *prop),
         Command::Synth {
             size,
             props,
@@ -153,16 +188,14 @@ fn push_asked(text: &mut Vec<u8>, command: &Command) -> Result<(), AllocError> {
             lines,
             alternatives,
         } => push_drill(text, *seed, *lines, *alternatives),
-        Command::Position {
-            weights,
-            kind,
-            profile,
-        } => push_position(text, weights, *kind, profile),
-        Command::Refute {
+        Command::OnRule { rule, work } => push_rule_work(text, rule, *work),
+        Command::OnProfile { profile, work } => push_profile_work(text, profile, work),
+        Command::OnRuleAndProfile {
             rule,
-            prop,
             profile,
-        } => push_refute(text, rule, *prop, profile),
+            work,
+        } => push_rule_profile_work(text, rule, profile, *work),
+        Command::Check { certificate } => push_one(text, "check", certificate),
         Command::RefutePair {
             rule,
             prop,
@@ -170,20 +203,7 @@ fn push_asked(text: &mut Vec<u8>, command: &Command) -> Result<(), AllocError> {
             second,
             lifted,
         } => push_refute_pair(text, rule, *prop, first, second, *lifted),
-        _ => Ok(()),
-    }
-}
-
-// The command with what it holds.
-fn push_command(text: &mut Vec<u8>, command: &Command) -> Result<(), AllocError> {
-    match command {
-        Command::Count { rule, profile } => push_two(text, "count", rule, profile),
-        Command::Report { rule, profile } => push_two(text, "report", rule, profile),
-        Command::Check { certificate } => push_one(text, "check", certificate),
-        Command::Listing { rule } => push_one(text, "listing", rule),
-        Command::Simplify { rule } => push_one(text, "simplify", rule),
         Command::Batch { rule, manifest } => push_two(text, "batch", rule, manifest),
-        _ => push_asked(text, command),
     }
 }
 

@@ -1,20 +1,24 @@
 //! The program: counts a profile with a voting rule, and reports which properties the rule has.
 //!
-//! `main` hands the words of the command line, the files of the current folder and the standard
-//! streams to one call, `call_on_full_bench`, and ends with the status that it answers. That call makes a
-//! bench of eight counters that serve every module, which its contract names one by one
-//! (`specs/FullBench.antt`), and does what `virage` of `vir_top` does on it. It stands on `vir_top`, and on
-//! `vir_counter`, `vir_machine` and `vir_outside` for the counters, the bench, and the real files and streams.
+//! `main` hands its words, the files of the current folder and the standard streams to one call, and ends with the
+//! status that this answers (`Exits` of `vir_bench`). That call makes a bench of eight counters that serve every
+//! module, by `call_on_full_bench` of `vir_bench`, and does what `virage` of `vir_top` does on it with the words behind
+//! the program's name. Beside these it stands on `vir_outside`, for the real files and streams.
 #![tactic(auto)]
 
-ghost use Rattle.std.specs.Prelude.{◌≡◌, ◌↔◌, ◌⊎◌};
+ghost use Rattle.std.specs.Prelude.{◌≡◌, ◌↔◌, ◌⊎◌, drop};
 ghost use Rattle.std.specs.IoError.{error_kind};
+ghost use Rattle.std.specs.Process.{exit_status};
 ghost use Rattle.std.specs.declared.io.ErrorKind.TheVariants.{OutOfMemory};
+ghost use Rattle.vir_outside.specs.Adapters.{folder_seen, stream_seen};
+ghost use Rattle.vir_bench.specs.Exits.{Exits};
 
-mod full_bench;
+mod calling;
 
-use full_bench::call_on_full_bench;
+use calling::call;
+use std::alloc::Global;
 use std::process::ExitCode;
+use std::rt::{Stderr, Stdout};
 use std::{env, io};
 use vir_outside::{FolderShelf, StreamSink};
 use vir_top::{OUT_OF_MEMORY, USAGE_FAULT};
@@ -31,19 +35,30 @@ fn status_of(error: &io::Error) -> u8
     }
 }
 
+// The call on the real files and streams; the types of the streams tell which is which.
+fn call_on_streams(
+    alloc: Global,
+    all: &[String],
+    shelf: &mut FolderShelf<'_, HostRuntime>,
+    out: &mut StreamSink<Stdout>,
+    err: &mut StreamSink<Stderr>,
+) -> ExitCode
+    ensures { Exits (drop 1 all.now) (exit_status result)
+        folder_seen shelf.old shelf.new stream_seen out.old out.new stream_seen err.old err.new }
+{
+    call(alloc, all, shelf, out, err)
+}
+
 fn main(rt: HostRuntime) -> ExitCode {
-    let words = match env::args(&rt) {
-        Ok(all) => all.skip(1).collect::<Vec<String>>(rt.alloc()),
+    let all = match env::args(&rt) {
+        Ok(all) => all.collect::<Vec<String>>(rt.alloc()),
         Err(error) => return ExitCode::from(status_of(&error)),
     };
-    let Ok(words) = words else {
+    let Ok(all) = all else {
         return ExitCode::from(OUT_OF_MEMORY);
     };
     let mut shelf = FolderShelf::new(&rt);
     let mut out = StreamSink::new(rt.stdout());
     let mut err = StreamSink::new(rt.stderr());
-    match call_on_full_bench(rt.alloc(), &words, &mut shelf, &mut out, &mut err) {
-        Ok(status) => ExitCode::from(status),
-        Err(_) => ExitCode::from(OUT_OF_MEMORY),
-    }
+    call_on_streams(rt.alloc(), &all, &mut shelf, &mut out, &mut err)
 }

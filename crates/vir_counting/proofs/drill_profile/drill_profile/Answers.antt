@@ -11,7 +11,8 @@ pub add_faultless-requires : goal.add_faultless-requires
 add_faultless-requires c =
     let profile = c.loop.profile in
     let state = c.loop.draws.state in
-    ap (λ order. add_fault profile (record { weight = 1; order = order })) (c.of.ensures ∙ c.in_ok-order.ensures.order)
+    ap (λ order. add_fault profile (record { weight = 1; order = order })) (c.in_ok-ballot.ensures ∙
+    c.in_ok-order.ensures.order)
     ∙ ap (λ m. add_fault profile (record { weight = 1; order = (drawn_from state m).order }))
     (sym c.loop.invariant.alternatives)
     ∙ add_fault-drawn profile state (omega arith) (omega arith)
@@ -23,11 +24,16 @@ loop-preserved c =
     let less : c.args.lines - (c.loop.counter + 1) ≡ left - 1 = omega arith in
     let added = c.in_ok-add_faultless.ensures in
     let lines = ap (λ (votes : Votes). votes.lines) added in
-    let more = lines_from-more m c.loop.draws.state left c.drawn_order.new.draws.state c.of.result c.loop.profile.lines
-    c.add_faultless.new.profile.lines (lines_from m c.args.seed c.args.lines) (omega arith) (c.of.ensures
+    let more = lines_from-more m c.loop.draws.state left c.drawn_order.new.draws.state c.in_ok-ballot.ballot
+    c.loop.profile.lines
+    c.add_faultless.new.profile.lines (lines_from m c.args.seed c.args.lines) (omega arith) (c.in_ok-ballot.ensures
     ∙ c.in_ok-order.ensures.order) c.in_ok-order.ensures.state lines c.loop.invariant.lines in
-    let longer = ap length lines ∙ length_push c.loop.profile.lines (record { weight = 1; order = c.of.result }) in
-    let heavier = ap total_weight lines ∙ total_weight-more c.loop.profile.lines c.of.result in
+    let longer = ap length lines ∙ length_push c.loop.profile.lines (record {
+      weight = 1;
+      order =
+          c.in_ok-ballot.ballot;
+    }) in
+    let heavier = ap total_weight lines ∙ total_weight-more c.loop.profile.lines c.in_ok-ballot.ballot in
     record {
       alternatives = ap (λ (votes : Votes). votes.alternatives) added ∙ c.loop.invariant.alternatives;
       lines = ap (λ n. c.add_faultless.new.profile.lines ++ lines_from m c.drawn_order.new.draws.state n) less ∙ more;

@@ -14,13 +14,13 @@ pub returns-in-len3-clause-range : goal.returns-in-len3-clause-range
 returns-in-len3-clause-range c =
     told_in_range c.read_two.result
     (c.deref-in-len3.result.now ∷ c.deref-in-len3-2.result.now ∷ c.deref-in-len3-3.result.now ∷ [])
-    c.read_two.ensures
+    c.read_two.ensures.command
 
 pub returns-in-len4-clause-range : goal.returns-in-len4-clause-range
 returns-in-len4-clause-range c =
     told_in_range c.read_three.result
     (c.deref-in-len4.result.now ∷ c.deref-in-len4-2.result.now ∷ c.deref-in-len4-3.result.now
-    ∷ c.deref-in-len4-4.result.now ∷ []) c.read_three.ensures
+    ∷ c.deref-in-len4-4.result.now ∷ []) c.read_three.ensures.command
 
 pub returns-in-len6-clause-range : goal.returns-in-len6-clause-range
 returns-in-len6-clause-range c =

@@ -1,6 +1,0 @@
-pub mod FullBench
-pub use Rattle.vir_top.specs.Calls
-pub use Rattle.vir_top.specs.CommandCourses
-pub use Rattle.vir_top.specs.Delivery
-pub use Rattle.vir_top.specs.Headline
-pub use Rattle.vir_top.specs.Printed
