@@ -3,10 +3,11 @@
 
     python3 examples/search/counterexample.py examples/rules/instant-runoff.vir mono
 
-Profiles are drawn, and virage is asked about each by `refute`; of a property on lifts it is asked about all profiles
-in which one alternative is raised on one line. The first case that violates the property is written to files, and
-printed with the command that shows it again. What is found is proved: the rule lacks the property. Finding nothing
-proves nothing.
+All profiles of few voters are gone through in order, and then profiles are drawn. virage is asked about each by
+`refute`; of a property on lifts it is asked about profiles in which one alternative is raised on some lines. What is
+found first is made smaller while it still violates the property; then it is written to files, and printed with the
+command that shows it again. What is found is proved: the rule lacks the property. Only of `neut`, which `refute`
+doesn't judge, it is by two counts. Finding nothing proves nothing.
 
 The status is 0 where a case is found, 1 where none is, 2 where the words are wrong, and 3 where virage gives no answer.
 """
@@ -15,24 +16,21 @@ from __future__ import annotations
 
 import argparse
 import os
-import random
 import shlex
 import shutil
 import sys
 import time
 import warnings
-from collections import Counter
 from pathlib import Path
-from typing import Any, Iterator, List, NamedTuple, Optional, TextIO, Tuple, Union
+from typing import Any, List, Optional, TextIO, Tuple, Union
 
 TOP = Path(__file__).resolve().parents[2]
 if (TOP / "python" / "virage").is_dir():
     sys.path.insert(0, str(TOP / "python"))
 
 import virage  # noqa: E402
-
-# the properties that speak of what becomes of an alternative that is raised
-ON_LIFTS = ("dli", "imono", "dimono", "dmono", "mono")
+from virage.cases import Bounds  # noqa: E402
+from virage.searches import ON_LIFTS, Search  # noqa: E402
 
 # seconds between two lines of progress, on a terminal, where the one takes the place of the other, and elsewhere
 PAUSES = (0.5, 60.0)
@@ -40,91 +38,22 @@ PAUSES = (0.5, 60.0)
 FOUND, NONE, USAGE, NO_ANSWER, STOPPED = 0, 1, 2, 3, 130
 
 
-class Bounds(NamedTuple):
-    """How large a drawn profile may be."""
-
-    alternatives: Tuple[int, int]
-    lines: int
-    weight: int
-
-
-class Case(NamedTuple):
-    """A profile, or two: in the second an alternative is raised on a line of the first, counted from 1."""
-
-    profile: virage.Profile
-    second: Optional[virage.Profile] = None
-    lifted: Optional[int] = None
-    line: Optional[int] = None
-
-
-class Draws:
-    """Numbers that a seed draws: the same at every run, and in each version of Python."""
-
-    def __init__(self, seed: int) -> None:
-        self._random = random.Random(seed)
-
-    def number(self, least: int, greatest: int) -> int:
-        """A number within these limits."""
-        return least + int(self._random.random() * (greatest - least + 1))
-
-    def order(self, alternatives: int) -> Tuple[int, ...]:
-        """An order of so many alternatives: each is put in at a place that is drawn."""
-        order: List[int] = []
-        for alternative in range(1, alternatives + 1):
-            order.insert(self.number(0, len(order)), alternative)
-        return tuple(order)
-
-    def profile(self, bounds: Bounds) -> virage.Profile:
-        """A profile within the bounds."""
-        alternatives = self.number(*bounds.alternatives)
-        lines = self.number(1, bounds.lines)
-        drawn = ((self.number(1, bounds.weight), self.order(alternatives)) for _ in range(lines))
-        return virage.Profile(alternatives, tuple(drawn))
-
-
-def raised(order: Tuple[int, ...], place: int, to: int) -> Tuple[int, ...]:
-    """The order in which the alternative at a place stands at one nearer the front."""
-    return order[:to] + (order[place],) + order[to:place] + order[place + 1 :]
-
-
-def lifts_of_one_line(profile: virage.Profile) -> Iterator[Case]:
-    """All cases in which one alternative is raised on one line."""
-    for line, (weight, order) in enumerate(profile.lines):
-        for place in range(1, len(order)):
-            for to in range(place):
-                lines = list(profile.lines)
-                lines[line] = (weight, raised(order, place, to))
-                second = virage.Profile(profile.alternatives, tuple(lines))
-                yield Case(profile, second, order[place], line + 1)
-
-
-def drawn_cases(seed: int, bounds: Bounds, on_lifts: bool) -> Iterator[Case]:
-    """Cases without end, of profiles that the seed draws."""
-    draws = Draws(seed)
-    while True:
-        profile = draws.profile(bounds)
-        if on_lifts:
-            yield from lifts_of_one_line(profile)
-        else:
-            yield Case(profile)
-
-
 class Progress:
     """Tells from time to time how many cases were tried."""
 
-    def __init__(self, cases: int, stream: TextIO) -> None:
-        self._cases, self._stream = cases, stream
+    def __init__(self, stream: TextIO) -> None:
+        self._stream = stream
         self._terminal = stream.isatty()
         self._pause = PAUSES[0 if self._terminal else 1]
         self._next = time.monotonic() + self._pause
         self._told = False
 
-    def tell(self, tried: int) -> None:
+    def tell(self, tried: int, cases: int) -> None:
         """Tells it, if it is time to."""
         if time.monotonic() < self._next:
             return
         self._next = time.monotonic() + self._pause
-        line = f"{tried:,} of {self._cases:,} cases, none of them violates the property"
+        line = f"{tried:,} of {cases:,} cases, none of them violates the property"
         self._stream.write(f"\r{line}" if self._terminal else f"{line}\n")
         self._stream.flush()
         self._told = True
@@ -133,33 +62,6 @@ class Progress:
         """Clears the line on a terminal."""
         if self._told and self._terminal:
             self._stream.write("\r\x1b[K")
-
-
-class Search:
-    """A search, and what became of its cases so far."""
-
-    def __init__(self, options: argparse.Namespace) -> None:
-        self._options = options
-        self._program = virage.Program().direct()
-        self.reasons: Counter[Optional[str]] = Counter()
-
-    @property
-    def tried(self) -> int:
-        """How many cases were tried."""
-        return sum(self.reasons.values())
-
-    def run(self, progress: Progress) -> Optional[Case]:
-        """The first case that violates the property, if one of so many does."""
-        options = self._options
-        cases = drawn_cases(options.seed, options.bounds, options.property in ON_LIFTS)
-        while self.tried < options.cases:
-            case = next(cases)
-            verdict = virage.refute(options.rule, options.property, *case[:3], program=self._program)
-            self.reasons[verdict.reason] += 1
-            if verdict.violated:
-                return case
-            progress.tell(self.tried)
-        return None
 
 
 def written(name: str, profile: virage.Profile) -> str:
@@ -175,15 +77,27 @@ def called(program: virage.Program) -> str:
     return "virage" if program.path == shutil.which("virage") else program.path
 
 
-def found_text(case: Case, tried: int, options: argparse.Namespace) -> str:
+def listed(result: Optional[virage.Result]) -> str:
+    """A result on one line."""
+    return "; ".join(str(result).splitlines())
+
+
+def found_text(found: virage.Counterexample, options: argparse.Namespace) -> str:
     """What is printed of a case that violates the property. Its profiles are written to files."""
     first, second = (f"{options.files}-{number}.soc" for number in (1, 2))
-    text = f"case {tried:,} of seed {options.seed} violates {options.property}\n" + written(first, case.profile)
+    text = f"case {found.tried:,} of seed {options.seed} violates {options.property}; this is left of it:\n"
+    text += written(first, found.profile)
     words = [called(virage.Program()), "refute", options.rule, options.property, first]
-    if case.second is not None:
-        text += written(second, case.second)
-        text += f"  (alternative {case.lifted} is raised on line {case.line} of the votes)\n"
-        words += [second, str(case.lifted)]
+    if found.renaming is not None:
+        names = ", ".join(f"{old} is {new}" for old, new in enumerate(found.renaming, 1))
+        return text + f"with {listed(found.before)}\nand, where {names}, {listed(found.after)}\n"
+    if found.second is not None:
+        text += written(second, found.second)
+        lines = [at for at, (before, after) in enumerate(zip(found.profile.lines, found.second.lines), 1)
+                 if before != after]
+        where = f"on line {', '.join(map(str, lines))} of the votes" if lines else "nowhere"
+        text += f"  (alternative {found.lifted} is raised {where})\n"
+        words += [second, str(found.lifted)]
     return text + f"the rule lacks the property, which is proved; this shows it again:\n  {shlex.join(words)}\n"
 
 
@@ -218,12 +132,13 @@ def read_options(words: Optional[List[str]] = None) -> argparse.Namespace:
     parser = argparse.ArgumentParser(
         description=__doc__, formatter_class=argparse.RawDescriptionHelpFormatter, allow_abbrev=False)
     parser.add_argument("rule", metavar="RULE", help="a rule file, of which the last rule is meant")
-    parser.add_argument("property", metavar="PROPERTY", help="any property but neut, as mono or defers(2)")
+    parser.add_argument("property", metavar="PROPERTY", help="as mono or defers(2)")
     parser.add_argument("--seed", type=int, default=1, help="what the profiles are drawn from (%(default)s)")
-    parser.add_argument("--cases", type=count, default=10_000, help="how many are tried (%(default)s)")
-    parser.add_argument("--alternatives", type=span, default=(2, 4), metavar="FROM-TO", help="how many (2-4)")
-    parser.add_argument("--lines", type=count, default=5, help="how many at most (%(default)s)")
-    parser.add_argument("--weight", type=count, default=6, help="of a line, at most (%(default)s)")
+    parser.add_argument("--cases", type=count, default=100_000, help="how many are tried (%(default)s)")
+    parser.add_argument(
+        "--alternatives", type=span, default=Bounds().alternatives, metavar="FROM-TO", help="how many (2-5)")
+    parser.add_argument("--lines", type=count, default=Bounds().lines, help="how many at most (%(default)s)")
+    parser.add_argument("--weight", type=count, default=Bounds().weight, help="of a line, at most (%(default)s)")
     parser.add_argument(
         "--files", default="counterexample", metavar="NAME", help="NAME-1.soc and NAME-2.soc are written (%(default)s)")
     options = parser.parse_args(words)
@@ -245,10 +160,11 @@ def tell_warning(message: Union[Warning, str], *_: Any, **__: Any) -> None:
 def main() -> int:
     options = read_options()
     warnings.showwarning = tell_warning
-    progress = Progress(options.cases, sys.stderr)
-    search = Search(options)
+    progress = Progress(sys.stderr)
+    search = None
     try:
-        case = search.run(progress)
+        search = Search(options.rule, options.property, options.seed, options.bounds)
+        found = search.run(options.cases, progress.tell)
     except virage.UsageFault:
         print(f"virage takes no refute of the property {options.property}", file=sys.stderr)
         return USAGE
@@ -256,12 +172,13 @@ def main() -> int:
         print(f"virage gives no answer: {type(fault).__name__} {fault}", file=sys.stderr)
         return NO_ANSWER
     except KeyboardInterrupt:
-        print(f"\nstopped after {search.tried:,} cases, none of which violates {options.property}", file=sys.stderr)
+        tried = 0 if search is None else search.tried
+        print(f"\nstopped after {tried:,} cases, none of which violates {options.property}", file=sys.stderr)
         return STOPPED
     finally:
         progress.end()
-    print(none_text(search, options) if case is None else found_text(case, search.tried, options), end="")
-    return NONE if case is None else FOUND
+    print(none_text(search, options) if found is None else found_text(found, options), end="")
+    return NONE if found is None else FOUND
 
 
 if __name__ == "__main__":
