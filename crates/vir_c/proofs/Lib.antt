@@ -1,0 +1,3 @@
+pub mod DueLemmas
+pub mod PieceLemmas
+pub mod TextLemmas

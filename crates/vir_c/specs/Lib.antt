@@ -1,0 +1,12 @@
+pub mod Answered
+pub mod Buffers
+pub mod Pieces
+pub mod Sure
+pub use Rattle.vir_bench.specs.FullBench
+pub use Rattle.vir_outside.specs.Memory
+pub use Rattle.vir_outside.specs.Shelf
+pub use Rattle.vir_top.specs.Calls
+pub use Rattle.vir_top.specs.CommandCourses
+pub use Rattle.vir_top.specs.Delivery
+pub use Rattle.vir_top.specs.Headline
+pub use Rattle.vir_top.specs.Printed

@@ -1,0 +1,17 @@
+-- What a caller hands in: bytes that stand one behind another, and how many there are of each.
+-- (The program's promises don't stand on this file.)
+use Rattle.std.specs.Prelude.{ℕ, List, [], ◌∷◌, take, drop}
+use Rattle.vir_c.specs.declared.sizes.FileSizes.{FileSizes}
+use Rattle.vir_outside.specs.Shelf.{Files}
+
+-- the pieces of these sizes, one behind another; where the bytes end before, so do the pieces
+abbrev pub pieces : List ℕ → List ℕ → List (List ℕ)
+pieces [] bytes = []
+pieces (size ∷ sizes) bytes = take size bytes ∷ pieces sizes (drop size bytes)
+
+-- the files of these sizes, one behind another, each its name and then its content
+abbrev pub files_of : List FileSizes → List ℕ → Files
+files_of [] bytes = []
+files_of (size ∷ sizes) bytes =
+    (take size.name bytes, take size.content (drop size.name bytes))
+    ∷ files_of sizes (drop size.content (drop size.name bytes))
