@@ -1,6 +1,7 @@
 """Makes the wheel of this folder for `pip install ./python`, with the standard library alone, so without network.
 
-Beside the modules the wheel holds the page of the rules and the style of report pages. The version is that of the file
+Beside the modules the wheel holds the page of the rules and the style of report pages; and where `c/build` has built the
+library of these sources, that library, so that the wheel is one for such machines. The version is that of the file
 VERSION at the top of the repository, where there is one.
 """
 
@@ -8,11 +9,16 @@ from __future__ import annotations
 
 import base64
 import hashlib
+import sys
 import zipfile
 from pathlib import Path
 from typing import Dict, List, Optional
 
 HERE = Path(__file__).resolve().parent
+sys.path.insert(0, str(HERE))
+
+from virage.engines import built_library  # noqa: E402
+from virage.library import SONAME  # noqa: E402
 
 
 def version() -> str:
@@ -20,11 +26,17 @@ def version() -> str:
     return file.read_text(encoding="utf-8").strip() if file.is_file() else "0"
 
 
+def tag() -> str:
+    """The machines that the wheel is for."""
+    return "py3-none-any" if built_library(HERE.parent) is None else "py3-none-linux_x86_64"
+
+
 def metadata() -> Dict[str, bytes]:
     """The files that say what the wheel is, by their names in it."""
     folder = f"virage-{version()}.dist-info"
     core = f"Metadata-Version: 2.1\nName: virage\nVersion: {version()}\nRequires-Python: >=3.9\n"
-    tags = "Wheel-Version: 1.0\nGenerator: virage\nRoot-Is-Purelib: true\nTag: py3-none-any\n"
+    is_pure = "true" if tag().endswith("any") else "false"
+    tags = f"Wheel-Version: 1.0\nGenerator: virage\nRoot-Is-Purelib: {is_pure}\nTag: {tag()}\n"
     license_text = (HERE.parent / "LICENSE").read_bytes()
     return {f"{folder}/METADATA": core.encode(), f"{folder}/WHEEL": tags.encode(), f"{folder}/LICENSE": license_text}
 
@@ -33,7 +45,11 @@ def modules() -> Dict[str, bytes]:
     """The files of the package, by their names in the wheel."""
     files = sorted(path for path in (HERE / "virage").iterdir() if path.is_file())
     page = HERE.parent / "docs" / "RULES.md"
-    return {f"virage/{path.name}": path.read_bytes() for path in [*files, page]}
+    packed = {f"virage/{path.name}": path.read_bytes() for path in [*files, page]}
+    library = built_library(HERE.parent)
+    if library is not None:
+        packed[f"virage/{SONAME}"] = library.read_bytes()
+    return packed
 
 
 def build_wheel(
@@ -42,7 +58,7 @@ def build_wheel(
     metadata_directory: Optional[str] = None,
 ) -> str:
     """What pip calls: writes the wheel into the folder, and gives its name."""
-    name = f"virage-{version()}-py3-none-any.whl"
+    name = f"virage-{version()}-{tag()}.whl"
     files = {**modules(), **metadata()}
     record = f"virage-{version()}.dist-info/RECORD"
     lines: List[str] = []

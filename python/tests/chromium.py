@@ -15,7 +15,7 @@ from typing import Any, Dict, List, Optional, Type
 BROWSER = shutil.which("chromium") or shutil.which("chromium-browser") or shutil.which("google-chrome")
 
 # how long an answer is waited for, in seconds
-_PATIENCE = 30
+_PATIENCE = 180.0
 
 _FLAGS = ["--headless=new", "--remote-debugging-pipe", "--disable-gpu", "--no-first-run", "--hide-scrollbars"]
 

@@ -4,6 +4,7 @@ from pathlib import Path
 
 TOP = Path(__file__).resolve().parents[2]
 RULES = sorted((TOP / "examples" / "rules").glob("*.vir"))
+PROFILES = sorted((TOP / "examples" / "profiles").glob("*.soc"))
 EXPECTED = TOP / "examples" / "expected"
 
 

@@ -16,7 +16,8 @@ DIVIDED_TEXT = "# NUMBER ALTERNATIVES: 3\n4: 1,2,3\n3: 2,3,1\n2: 3,2,1\n"
 
 class Counts(unittest.TestCase):
     def test_recorded_results(self) -> None:
-        for expected in sorted(EXPECTED.glob("[!r]*")):
+        recorded = (it for it in EXPECTED.iterdir() if it.name.count(".") == 1 and not it.name.startswith("pairs."))
+        for expected in sorted(recorded):
             name, votes = expected.name.split(".")
             result = virage.count(rule(name), profile(votes))
             self.assertEqual(_printed(result), expected.read_text(), expected.name)

@@ -14,10 +14,11 @@ from .places import EXPECTED, RULES, TOP, profile
 VOID = {"meta", "wbr"}
 ELEMENTS = VOID | set(
     "html head title style body header main footer section div h1 h2 h3 h4 p span code pre ul li bdi table thead tbody"
-    " tr th td a details summary dl dt dd em".split()
+    " tr th td caption a details summary dl dt dd em strong svg rect".split()
 )
 ATTRIBUTES = set(
-    "lang charset http-equiv content name class id href role scope tabindex aria-labelledby aria-hidden".split()
+    "lang charset http-equiv content name class id href role scope tabindex aria-labelledby aria-label aria-hidden"
+    " open viewbox preserveaspectratio x y width height".split()
 )
 
 

@@ -22,10 +22,17 @@ class Terms(unittest.TestCase):
         first, second = term.parts[0].parts
         self.assertEqual((first.number, first.order, second.score), (2, (3, 1), "minimax"))
 
+    def test_blanks_stand_between_words_and_signs(self) -> None:
+        term = Term.read(" seq( max (borda) ,\n pass(2, [3 , 1]) )\t")
+        self.assertEqual(str(term), "seq(max(borda),pass(2,[3,1]))")
+        with self.assertRaises(ValueError):
+            Term.printed("seq(elect, elect)")
+
     def test_other_texts_are_no_terms(self) -> None:
         arguments = ("seq(elect)", "elect(1)", "pass", "max(1)", "max(elect(1))", "rev(1)", "loop(elect,elect)")
-        signs = ("", "seq(elect,elect))", "elect,", "seq(elect, elect)", "pass(1,[)", "1", "[1]")
-        for text in ("foo", *arguments, *signs):
+        signs = ("", "seq(elect,elect))", "elect,", "seq(elect,, elect)", "pass(1,[)", "1", "[1]")
+        blanks = ("pass(1 2)", "el ect")
+        for text in ("foo", *arguments, *signs, *blanks):
             with self.assertRaises(ValueError, msg=text):
                 Term.read(text)
 

@@ -17,7 +17,7 @@ class Result:
     elected: FrozenSet[int]
     rejected: FrozenSet[int]
     deferred: FrozenSet[int]
-    names: Mapping[int, str] = field(default_factory=dict)
+    names: Mapping[int, str] = field(default_factory=dict, hash=False)
 
     def labels(self, alternatives: Iterable[int]) -> List[str]:
         """The names of these alternatives, ascending by number; the number where there is no name."""
@@ -26,6 +26,12 @@ class Result:
     def __str__(self) -> str:
         sets = (("elected", self.elected), ("rejected", self.rejected), ("deferred", self.deferred))
         return "\n".join(f"{word}: {self._listed(alternatives)}".rstrip() for word, alternatives in sets)
+
+    def _repr_html_(self) -> str:
+        """The three sets, for a notebook."""
+        from .pages import shown_result
+
+        return shown_result(self)
 
     def _listed(self, alternatives: Iterable[int]) -> str:
         return ", ".join(f"{i} {self.names[i]}" if i in self.names else str(i) for i in sorted(alternatives))
@@ -42,8 +48,14 @@ class Report:
     alternatives: int
     voters: int
     result: Result
-    findings: Mapping[str, Finding]
+    findings: Mapping[str, Finding] = field(hash=False)
     text: bytes = field(repr=False)
+
+    def _repr_html_(self) -> str:
+        """The result and the findings, for a notebook."""
+        from .pages import shown_report
+
+        return shown_report(self)
 
     @property
     def names(self) -> Mapping[int, str]:
@@ -80,7 +92,7 @@ class Drill:
     lines: int
     voters: int
     alternatives: int
-    elected: Mapping[Term, FrozenSet[int]]
+    elected: Mapping[Term, FrozenSet[int]] = field(hash=False)
 
 
 @dataclass(frozen=True)
@@ -111,7 +123,7 @@ class Found:
     """The first term that has the wanted properties, and the first derivation of each."""
 
     term: Term
-    derivations: Mapping[str, Derivation]
+    derivations: Mapping[str, Derivation] = field(hash=False)
 
 
 @dataclass(frozen=True)
@@ -204,7 +216,7 @@ def read_result(text: bytes) -> Result:
 def read_report(text: bytes) -> Report:
     """The report that `report` printed."""
     lines = Lines(text)
-    term = Term.read(lines.after("rule "))
+    term = Term.printed(lines.after("rule "))
     alternatives = int(lines.after("alternatives "))
     voters = int(lines.after("voters "))
     names = {}
@@ -263,19 +275,19 @@ def read_drill(text: bytes) -> Drill:
     elected = {}
     while lines.more():
         term, _, numbers = lines.after("").partition(" elected:")
-        elected[Term.read(term)] = _numbers(numbers)
+        elected[Term.printed(term)] = _numbers(numbers)
     return Drill(drawn, voters, alternatives, elected)
 
 
 def _argument(word: str) -> Union[int, Term]:
-    return int(word) if word.isdigit() else Term.read(word)
+    return int(word) if word.isdigit() else Term.printed(word)
 
 
 def read_certificate(text: bytes) -> Certificate:
     """A certificate as `prove` prints it. What it says of its derivation is true: that is looked at here too."""
     lines = Lines(text)
     version = int(lines.after("virage-certificate "))
-    term = Term.read(lines.after("term "))
+    term = Term.printed(lines.after("term "))
     property = lines.after("property ")
     derivation = Derivation.read(lines.after("derivation "), Judgement(property, (term,)))
     lines.end()
@@ -339,7 +351,7 @@ def read_case_verdict(text: bytes) -> CaseVerdict:
 def read_simplified(text: bytes) -> Simplified:
     """What `simplify` printed."""
     lines = Lines(text)
-    term = Term.read(lines.after("simple "))
+    term = Term.printed(lines.after("simple "))
     steps = []
     while lines.more():
         equation, _, place = lines.after("").partition(" ")
@@ -352,7 +364,7 @@ def read_found(text: bytes) -> Optional[Found]:
     lines = Lines(text)
     if lines.begins("none up to "):
         return None
-    term = Term.read(lines.after("found "))
+    term = Term.printed(lines.after("found "))
     derivations = {}
     while lines.more():
         found = read_holds(lines, term)

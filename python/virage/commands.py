@@ -4,7 +4,19 @@ from __future__ import annotations
 
 import operator
 from dataclasses import replace
-from typing import Callable, Iterable, Optional, Sequence, SupportsIndex, Tuple, TypeVar, Union
+from typing import (
+    Callable,
+    Iterable,
+    Iterator,
+    List,
+    Mapping,
+    Optional,
+    Sequence,
+    SupportsIndex,
+    Tuple,
+    TypeVar,
+    Union,
+)
 
 from .answers import (
     CaseVerdict,
@@ -30,34 +42,54 @@ from .answers import (
     read_verdict,
 )
 from .derivations import Underived
-from .faults import Broken
-from .profiles import Files, PathOrText, ProfileLike, RuleLike, names_in
-from .program import Program
+from .engines import Engine, engine
+from .explanations import Explanation, Pairs, read_explained, read_pairs
+from .faults import Broken, TextRefused, UsageFault
+from .profiles import Files, Given, PathOrText, ProfileLike, RuleLike, names_in
+from .program import Answer
 from .terms import Term
+from .usage import told_usage
 
 Read = TypeVar("Read")
 
+# how many bytes a manifest may have
+_LONGEST_MANIFEST = 1_048_576
 
-def count(rule: RuleLike, profile: ProfileLike, *, program: Optional[Program] = None) -> Result:
+
+def count(rule: RuleLike, profile: ProfileLike, *, program: Optional[Engine] = None) -> Result:
     """Whom the last rule of a rule file elects, rejects and defers on a profile."""
     with Files() as files:
-        path = files.profile(profile)
-        return _named(_answer(read_result, program, "count", files.rule(rule), path), path)
+        votes = files.profile(profile)
+        return _named(_answer(read_result, program, "count", files.rule(rule), votes), votes)
 
 
-def report(rule: RuleLike, profile: ProfileLike, *, program: Optional[Program] = None) -> Report:
+def report(rule: RuleLike, profile: ProfileLike, *, program: Optional[Engine] = None) -> Report:
     """What `count` gives, and what is derived of the rule on every profile: findings with derivations or reasons."""
     with Files() as files:
         return _answer(read_report, program, "report", files.rule(rule), files.profile(profile))
 
 
-def prove(rule: RuleLike, property: str, *, program: Optional[Program] = None) -> Union[Certificate, Underived]:
+def explain(
+    rule: RuleLike, profile: ProfileLike, *, program: Optional[Engine] = None
+) -> Optional[Explanation]:
+    """How the last rule of a rule file comes to its result on a profile; None where the text would be too long."""
+    with Files() as files:
+        return _answer(read_explained, program, "explain", files.rule(rule), files.profile(profile))
+
+
+def pairs(profile: ProfileLike, *, program: Optional[Engine] = None) -> Pairs:
+    """How many voters of a profile put one alternative before another, and the Condorcet winner."""
+    with Files() as files:
+        return _answer(read_pairs, program, "pairs", files.profile(profile))
+
+
+def prove(rule: RuleLike, property: str, *, program: Optional[Engine] = None) -> Union[Certificate, Underived]:
     """A certificate that the last rule of a rule file has a property, as `mono`, or why none is derived."""
     with Files() as files:
         return _answer(read_proof, program, "prove", files.rule(rule), property)
 
 
-def check(certificate: Union[PathOrText, Certificate], *, program: Optional[Program] = None) -> Verdict:
+def check(certificate: Union[PathOrText, Certificate], *, program: Optional[Engine] = None) -> Verdict:
     """Whether a certificate's derivation is valid, so that its term has its property.
 
     A string that holds a line feed is the text of a certificate, any other a file's name.
@@ -74,7 +106,7 @@ def refute(
     second: Optional[ProfileLike] = None,
     lifted: Optional[SupportsIndex] = None,
     *,
-    program: Optional[Program] = None,
+    program: Optional[Engine] = None,
 ) -> CaseVerdict:
     """Whether a profile shows that the last rule of a rule file lacks a property.
 
@@ -84,13 +116,13 @@ def refute(
     if (second is None) != (lifted is None):
         raise ValueError("a second profile comes with the alternative that is lifted in it, and none without it")
     with Files() as files:
-        words = [files.rule(rule), property, files.profile(profile)]
+        words: List[Union[str, Given]] = [files.rule(rule), property, files.profile(profile)]
         if second is not None and lifted is not None:
             words += [files.profile(second, "second.soc"), str(operator.index(lifted))]
         return _answer(read_case_verdict, program, "refute", *words)
 
 
-def simplify(rule: RuleLike, *, program: Optional[Program] = None) -> Simplified:
+def simplify(rule: RuleLike, *, program: Optional[Engine] = None) -> Simplified:
     """A term of the same meaning as the last rule of a rule file, which no equation makes smaller, and the steps."""
     with Files() as files:
         return _answer(read_simplified, program, "simplify", files.rule(rule))
@@ -101,7 +133,7 @@ def synth(
     properties: Union[str, Sequence[str]],
     leaves: Union[None, str, Term, Sequence[Union[Term, str]]] = None,
     *,
-    program: Optional[Program] = None,
+    program: Optional[Engine] = None,
 ) -> Optional[Found]:
     """The first term of up to this size that is derived to have these properties; None where there is none.
 
@@ -114,7 +146,7 @@ def synth(
 
 
 def position(
-    weights: Sequence[SupportsIndex], kind: str, profile: ProfileLike, *, program: Optional[Program] = None
+    weights: Sequence[SupportsIndex], kind: str, profile: ProfileLike, *, program: Optional[Engine] = None
 ) -> Result:
     """Whom an elimination of this kind (max, min, below, upto) rejects and defers by weights of places.
 
@@ -122,40 +154,101 @@ def position(
     """
     listed = ",".join(str(operator.index(weight)) for weight in weights)
     with Files() as files:
-        path = files.profile(profile)
-        return _named(_answer(read_result, program, "position", listed, kind, path), path)
+        votes = files.profile(profile)
+        return _named(_answer(read_result, program, "position", listed, kind, votes), votes)
 
 
 def batch(
-    rule: RuleLike, profiles: Iterable[ProfileLike], *, program: Optional[Program] = None
+    rule: RuleLike,
+    profiles: Union[Iterable[ProfileLike], Mapping[str, ProfileLike]],
+    *,
+    program: Optional[Engine] = None,
 ) -> Tuple[Union[Counted, Refused], ...]:
-    """Whom the last rule of a rule file elects, rejects and defers on each of these profiles, at most 10,000."""
+    """Whom the last rule of a rule file elects, rejects and defers on each of these profiles.
+
+    The file of a row is the path of its profile, or its key where profiles are a dictionary; of what has neither it is
+    the number in the list, from 0. More profiles than one call takes are cut into calls.
+    """
+    rows: List[Union[Counted, Refused]] = []
     with Files() as files:
-        paths = [files.profile(profile, f"{number}.soc") for number, profile in enumerate(profiles)]
-        manifest = files.manifest(paths)
-        return _answer(lambda text: read_batch(text, paths), program, "batch", files.rule(rule), manifest)
+        given_rule = files.rule(rule)
+        given = [_called(files.profile(it, f"{i}.soc"), key, i) for i, (key, it) in enumerate(_each(profiles))]
+        for part in _cut(given, (program or engine()).most_profiles):
+            manifest = files.manifest(part)
+            read = _answer(lambda text: read_batch(text, manifest.names), program, "batch", given_rule, manifest)
+            rows += map(_named_row, read, part)
+    return tuple(rows)
 
 
-def listing(rule: RuleLike, *, program: Optional[Program] = None) -> Tuple[Instruction, ...]:
+def _each(
+    profiles: Union[Iterable[ProfileLike], Mapping[str, ProfileLike]],
+) -> Iterable[Tuple[Optional[str], ProfileLike]]:
+    """The profiles, each with its key, if it has one."""
+    if isinstance(profiles, Mapping):
+        return profiles.items()
+    return ((None, it) for it in profiles)
+
+
+def _called(given: Given, key: Optional[str], number: int) -> Given:
+    given.called = key if key is not None else given.called or str(number)
+    return given
+
+
+def _cut(given: Sequence[Given], most: int) -> Iterator[Sequence[Given]]:
+    """Parts of at most so many, whose names fit into a manifest; one part even of none."""
+    part: List[Given] = []
+    size = 0
+    for it in given:
+        size += it.most_bytes
+        if part and (len(part) == most or size > _LONGEST_MANIFEST):
+            yield part
+            part, size = [], it.most_bytes
+        part.append(it)
+    if part or not given:
+        yield part
+
+
+def _named_row(row: Union[Counted, Refused], given: Given) -> Union[Counted, Refused]:
+    if isinstance(row, Refused):
+        return replace(row, file=given.called)
+    return Counted(given.called, row.voters, _named(row.result, given))
+
+
+def listing(rule: RuleLike, *, program: Optional[Engine] = None) -> Tuple[Instruction, ...]:
     """The counting code of the last rule of a rule file."""
     with Files() as files:
         return _answer(read_listing, program, "listing", files.rule(rule))
 
 
-def drill(seed: int, lines: int, alternatives: int, *, program: Optional[Program] = None) -> Drill:
+def drill(seed: int, lines: int, alternatives: int, *, program: Optional[Engine] = None) -> Drill:
     """Whom four stated rules elect on a profile that is made up from the seed."""
     return _answer(read_drill, program, "drill", str(seed), str(lines), str(alternatives))
 
 
-def _named(result: Result, path: str) -> Result:
+def _named(result: Result, given: Given) -> Result:
     """The result with the names that are given in the file of the profile."""
     alternatives = len(result.elected) + len(result.rejected) + len(result.deferred)
-    return replace(result, names=names_in(path, alternatives))
+    names = names_in(given, alternatives)
+    return replace(result, names=names) if names else result
 
 
-def _answer(read: Callable[[bytes], Read], program: Optional[Program], *words: str) -> Read:
-    answer = (program or Program()).run(*words)
+def _answer(read: Callable[[bytes], Read], program: Optional[Engine], *words: Union[str, Given]) -> Read:
+    answer = _run(program or engine(), words)
     try:
         return read(answer.text)
     except (ValueError, IndexError, TypeError) as stop:
         raise Broken(f"what {words[0]} printed isn't understood: {stop}") from stop
+
+
+def _run(called: Engine, words: Sequence[Union[str, Given]]) -> Answer:
+    try:
+        return called.run(*words)
+    except UsageFault as stop:
+        raise told_usage(called.run, stop, words) from None
+    except TextRefused as refused:
+        raise TextRefused(refused.kind, _place(refused.byte, words[1])) from None
+
+
+def _place(byte: int, given: Union[str, Given]) -> int:
+    """The place in what a user has written, where a call made a file of it."""
+    return max(byte - given.before, 0) if isinstance(given, Given) else byte

@@ -3,7 +3,8 @@
 from __future__ import annotations
 
 from dataclasses import dataclass
-from typing import Iterator, List, Tuple, Union
+from functools import cached_property
+from typing import Dict, Iterator, List, Tuple, Union
 
 from .rules import DoesNotFit, Judgement, table
 from .terms import Argument, Tree, read_tree
@@ -19,8 +20,14 @@ class Derivation:
 
     @classmethod
     def read(cls, text: str, judgement: Judgement) -> Derivation:
-        """The derivation of a printed text, for this judgement. Where it isn't valid it is a ValueError."""
-        return _valid(read_tree(text), judgement)
+        """The derivation of a printed text, for this judgement. Where it isn't valid it is a ValueError.
+
+        Derivations in it that are equal, of one judgement, are one object: a text of megabytes has few that differ.
+        """
+        return _valid(read_tree(text), judgement, {})
+
+    def __hash__(self) -> int:
+        return hash((self.rule, self.judgement))
 
     def __str__(self) -> str:
         return f"{self.rule}({','.join(map(str, self.premises))})" if self.premises else self.rule
@@ -30,14 +37,32 @@ class Derivation:
 
     def preorder(self) -> Iterator[Derivation]:
         """The derivation and all those in it, each before those of its premises."""
-        yield self
-        for premise in self.premises:
-            yield from premise.preorder()
+        left = [self]
+        while left:
+            node = left.pop()
+            yield node
+            left += reversed(node.premises)
 
-    @property
+    def distinct(self) -> Iterator[Derivation]:
+        """As `preorder`, but each object once."""
+        left, met = [self], set()
+        while left:
+            node = left.pop()
+            if id(node) not in met:
+                met.add(id(node))
+                yield node
+                left += reversed(node.premises)
+
+    @cached_property
     def size(self) -> int:
         """The number of its nodes."""
-        return sum(1 for _ in self.preorder())
+        return 1 + sum(premise.size for premise in self.premises)
+
+    def _repr_html_(self) -> str:
+        """The tree, for a notebook."""
+        from .pages import shown_derivation
+
+        return shown_derivation(self)
 
     def drawn(self) -> str:
         """A drawing of the tree: a line a node, with what it concludes and its rule."""
@@ -54,13 +79,24 @@ def _lines(node: Derivation, first: str, later: str) -> Iterator[Tuple[str, str]
         yield from _lines(premise, later + "└─ ", later + "   ")
 
 
-def _valid(tree: Argument, judgement: Judgement) -> Derivation:
+# derivations that are known to be valid, by their trees, and by the judgements: their properties and terms
+_Known = Dict[Tuple[object, ...], Derivation]
+
+
+def _valid(tree: Argument, judgement: Judgement, known: _Known) -> Derivation:
+    key = (id(tree), judgement.property, *map(id, judgement.terms))
+    if key not in known:
+        known[key] = _judged(tree, judgement, known)
+    return known[key]
+
+
+def _judged(tree: Argument, judgement: Judgement, known: _Known) -> Derivation:
     if not isinstance(tree, Tree):
         raise ValueError(f"not a derivation: {tree}")
     wanted = table().rule(tree.word).premises_of(judgement)
     if len(wanted) != len(tree.arguments):
         raise DoesNotFit(f"{tree.word} has {len(wanted)} premises")
-    return Derivation(tree.word, judgement, tuple(map(_valid, tree.arguments, wanted)))
+    return Derivation(tree.word, judgement, tuple(_valid(it, of, known) for it, of in zip(tree.arguments, wanted)))
 
 
 @dataclass(frozen=True, repr=False)

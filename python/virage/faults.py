@@ -3,7 +3,7 @@
 from __future__ import annotations
 
 import re
-from typing import Callable, Dict, List
+from typing import Callable, Dict, List, Optional
 
 
 class Fault(Exception):
@@ -11,7 +11,14 @@ class Fault(Exception):
 
 
 class UsageFault(Fault):
-    """The words of the call aren't of a form that the program knows (status 2)."""
+    """The words of the call aren't of a form that the program knows (status 2).
+
+    `word` is the one that is wrong, where one is by itself.
+    """
+
+    def __init__(self, text: str, word: Optional[str] = None) -> None:
+        super().__init__(text)
+        self.word = word
 
 
 class TextRefused(Fault):

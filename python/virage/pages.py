@@ -6,11 +6,14 @@ import base64
 import hashlib
 import re
 from pathlib import Path
-from typing import Dict, Iterable, List, Mapping, Set
+from typing import Dict, Iterable, List, Mapping, Optional, Set
 
+from .account_pages import sections as account_sections
 from .answers import Report, Result
 from .derivations import Derivation, Finding, Holds, Reason, Underived
+from .explanations import Explanation, Pairs
 from .markup import Markup, element, joined, prose, term_code
+from .profiles import Profile
 from .rules import Judgement, Rule, table
 from .terms import Term
 
@@ -22,7 +25,15 @@ _NOTES = {"Disjoint terms": "property-disj"}
 # of a longer name this much is shown
 _SHOWN = 200
 
-_GLOSSES: Dict[str, str] = {
+# of a longer term this much is shown beside a judgement on it
+_TERM_SHOWN = 2000
+
+# in a derivation of more steps each one that stands in it several times is drawn once
+_DRAWN_IN_FULL = 1000
+
+_LINK = re.compile(r'<a href="#[^"]*">(.*?)</a>')
+
+GLOSSES: Dict[str, str] = {
     "elect": "elects all",
     "defer": "defers all",
     "plurality": "elects those with most first places, and rejects the others",
@@ -39,7 +50,7 @@ _GLOSSES: Dict[str, str] = {
     "until": "again and again, until their number is at most {number} or a turn defers all",
 }
 
-_SCORES: Dict[str, str] = {
+SCORES: Dict[str, str] = {
     "plurality": "number of first places",
     "borda": "Borda score",
     "copeland": "Copeland score",
@@ -48,12 +59,48 @@ _SCORES: Dict[str, str] = {
 }
 
 
-def page(report: Report) -> str:
-    """The page of a report, as the text of one file."""
+def page(
+    report: Report,
+    explanation: Optional[Explanation] = None,
+    pairs: Optional[Pairs] = None,
+    profile: Optional[Profile] = None,
+) -> str:
+    """The page of a report, as the text of one file; with how its result came about, the pairs and the ballots."""
     style = _STYLE.read_text(encoding="utf-8")
-    body = joined(_header(report), element("main", *_sections(report)), _footer())
-    whole = element("html", _head(str(report.term), style), element("body", body), lang="en")
+    if explanation is not None and (explanation.term, explanation.result) != (report.term, report.result):
+        raise ValueError("the explanation isn't that of the report's rule and result")
+    told = (_section(id_, title, *content) for id_, title, content in account_sections(explanation, pairs, profile))
+    first, *others = _sections(report)
+    body = joined(_header(report), element("main", first, *told, *others), _footer())
+    return whole_page(f"Report: {report.term}", style, body)
+
+
+def whole_page(title: str, style: str, body: str) -> str:
+    """A page of one file with this title, style and markup, which asks the browser to refuse all else."""
+    whole = element("html", _head(title, style), element("body", body), lang="en")
     return f"<!DOCTYPE html>\n{whole}\n"
+
+
+def shown_findings(report: Report) -> str:
+    """The part of a page that tells what is derived of a rule, by itself."""
+    return _LINK.sub(r"\1", joined(*_properties(report.findings)))
+
+
+def shown_result(result: Result) -> str:
+    """The part of a page that tells a result, by itself."""
+    return str(_result(result))
+
+
+def shown_report(report: Report) -> str:
+    """The parts of a page that tell whom a rule elects, what the rule is, and what is derived of it, by themselves."""
+    heading = element("p", term_code(_cut(str(report.term))))
+    parts = (heading, _result(report.result), *_properties(report.findings))
+    return _LINK.sub(r"\1", joined(*parts))
+
+
+def shown_derivation(derivation: Derivation) -> str:
+    """A derivation as a page draws it, by itself and open."""
+    return _LINK.sub(r"\1", _derived_tree(derivation))
 
 
 def _head(title: str, style: str) -> Markup:
@@ -64,7 +111,7 @@ def _head(title: str, style: str) -> Markup:
         Markup('<meta charset="utf-8">'),
         Markup(f'<meta http-equiv="Content-Security-Policy" content="{policy}">'),
         Markup('<meta name="viewport" content="width=device-width, initial-scale=1">'),
-        element("title", f"Report: {title}"),
+        element("title", title),
         element("style", Markup(style)),
     )
 
@@ -80,7 +127,7 @@ def _header(report: Report) -> Markup:
 
 
 def _footer() -> Markup:
-    said = "This page was drawn from what the command report of virage printed. Drawing isn't part of what is proved."
+    said = "This page was drawn from what virage printed. Drawing isn't part of what is proved."
     return element("footer", element("p", said))
 
 
@@ -148,8 +195,8 @@ def _gloss(term: Term) -> str:
     listed = ", ".join(map(str, term.order))
     order = f"{listed}, then ascending" if listed else "of the numbers"
     first = "the first" if term.number == 1 else f"the first {term.number}"
-    score = _SCORES.get(term.score or "", "")
-    return _GLOSSES[term.word].format(number=term.number, first=first, order=order, score=score)
+    score = SCORES.get(term.score or "", "")
+    return GLOSSES[term.word].format(number=term.number, first=first, order=order, score=score)
 
 
 # ---- the properties
@@ -166,7 +213,7 @@ def _properties(findings: Mapping[str, Finding]) -> Iterable[Markup]:
     headings = (element("th", word, scope="col", role="columnheader") for word in ("Property", "Finding", "Why"))
     head = element("thead", element("tr", *headings, role="row"), role="rowgroup")
     rows = element("tbody", *(_row(found) for found in findings.values()), role="rowgroup")
-    yield element("table", head, rows, role="table", aria_labelledby="properties")
+    yield element("table", head, rows, role="table", aria_labelledby="properties", class_="findings")
 
 
 def _row(found: Finding) -> Markup:
@@ -195,14 +242,25 @@ def _why(found: Finding) -> Markup:
 def _derivation(derivation: Derivation) -> Markup:
     steps = _number(derivation.size, "step")
     summary = element("summary", f"Derivation by {derivation.rule}, {steps}")
-    tree = element("ul", _derived(derivation), role="list")
-    return element("details", summary, element("div", tree, class_="tree"))
+    return element("details", summary, _derived_tree(derivation))
 
 
-def _derived(derivation: Derivation) -> Markup:
+def _derived_tree(derivation: Derivation) -> Markup:
+    drawn: Optional[Set[int]] = None if derivation.size <= _DRAWN_IN_FULL else set()
+    tree = element("ul", _derived(derivation, drawn), role="list")
+    once = element("p", "It is long, so that a step which stands in it several times is drawn once.")
+    return element("div", *([] if drawn is None else [once]), tree, class_="tree")
+
+
+def _derived(derivation: Derivation, drawn: Optional[Set[int]]) -> Markup:
+    """A step and those that it stands on, these only where it isn't among the drawn ones."""
     rule = element("span", "by ", _rule_link(derivation.rule), class_="by")
     told = joined(_judgement(derivation.judgement), " ", rule)
-    return _node(told, [_derived(premise) for premise in derivation.premises])
+    if drawn is not None and derivation.premises:
+        if id(derivation) in drawn:
+            return _node(joined(told, ", as above"), [])
+        drawn.add(id(derivation))
+    return _node(told, [_derived(premise, drawn) for premise in derivation.premises])
 
 
 def _reasons(found: Underived) -> Markup:
@@ -223,9 +281,13 @@ def _reason(reason: Reason) -> Markup:
 
 
 def _judgement(judgement: Judgement) -> Markup:
-    about = [term_code(str(term)) for term in judgement.terms]
+    about = [term_code(_cut(str(term))) for term in judgement.terms]
     between = about[:1] + [part for term in about[1:] for part in (Markup(" and "), term)]
     return element("span", _property_link(judgement.property), " of ", *between, class_="judgement")
+
+
+def _cut(term: str) -> str:
+    return term if len(term) <= _TERM_SHOWN else f"{term[:_TERM_SHOWN]} … ({len(term):,} characters)"
 
 
 def _property_link(text: str) -> Markup:
@@ -280,7 +342,7 @@ def _used(findings: Iterable[Finding]) -> Set[str]:
     names: Set[str] = set()
     for found in findings:
         if isinstance(found, Holds):
-            names.update(node.rule for node in found.derivation.preorder())
+            names.update(node.rule for node in found.derivation.distinct())
         else:
             names.update(reason.rule for reason in found.reasons)
     return names

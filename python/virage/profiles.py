@@ -44,6 +44,22 @@ class Profile:
         read = tuple((weight, tuple(_number(entry, numbers) for entry in order)) for weight, order in ballots)
         return cls(max(len(called), len(first)), read, dict(enumerate(called, 1)))
 
+    @classmethod
+    def read(cls, text: bytes) -> Profile:
+        """The profile of a `.soc` file that the program accepts. What it refuses may be a ValueError, or not."""
+        alternatives, ballots, names = 0, [], {}
+        for line in map(_trimmed, text.removeprefix(b"\xef\xbb\xbf").split(b"\n")):
+            key, _, value = (_trimmed(part) for part in line.partition(b":"))
+            if line.startswith(b"#"):
+                named = _NAME.match(line)
+                if _trimmed(key[1:]) == b"NUMBER ALTERNATIVES":
+                    alternatives = int(value)
+                elif named:
+                    names[int(named[1])] = _trimmed(named[2]).decode("utf-8", "surrogateescape")
+            elif line:
+                ballots.append((int(key), tuple(int(member) for member in value.split(b","))))
+        return cls(alternatives, tuple(ballots), {i: name for i, name in sorted(names.items()) if name})
+
     def text(self) -> bytes:
         """The `.soc` file of this profile: the number of alternatives, then the names, then the lines."""
         if any("\n" in name for name in self.names.values()):
@@ -62,15 +78,102 @@ def _number(entry: Union[SupportsIndex, str], numbers: Mapping[str, int]) -> int
     return numbers[entry]
 
 
-PathOrText = Union[str, bytes, os.PathLike[str]]
+PathOrText = Union[str, bytes, "os.PathLike[str]"]
 RuleLike = Union[PathOrText, Term]
 ProfileLike = Union[PathOrText, Profile, Iterable[Line]]
 
 _NAME = re.compile(rb"#[ \t\r]*ALTERNATIVE NAME 0*([1-9][0-9]*)[ \t\r]*:(.*)", re.DOTALL)
 
+# what looks like a term, and like no path
+_TERM = re.compile(r"\s*[A-Za-z][A-Za-z0-9_-]*\s*\([A-Za-z0-9_,()[\]\s-]*\)\s*")
+
+# how many bytes the path of a file that is kept has at most, unless the folder for such files is far down
+_MOST_OF_KEPT = 100
+
+# what stands before a term in the text of a rule file that is made of it
+_RULE = b"rule = "
+
+
+class Given:
+    """A file that a call is handed: a path, or a content; and the name that it has among the files of the call.
+
+    A path is read only by what asks for the content; a content stands in a file only once that is asked for.
+    """
+
+    def __init__(
+        self, files: Files, name: str, path: Optional[str] = None, content: Optional[bytes] = None, before: int = 0
+    ) -> None:
+        self.name = name
+        # what an answer calls it: its path, or what is put here
+        self.called = path or ""
+        # how many bytes stand before what a user has written
+        self.before = before
+        self._files = files
+        self._path = path
+        self._content = content
+
+    def content(self) -> Optional[bytes]:
+        """What stands in it; None where it can't be read."""
+        if self._content is None and self._path is not None:
+            try:
+                with open(self._path, "rb") as file:
+                    self._content = file.read()
+            except (OSError, ValueError):
+                return None
+        return self._content
+
+    def content_again(self) -> Optional[bytes]:
+        """What stands in it, behind a call; None where it is a pipe of which it isn't known."""
+        if self._content is None and (self._path is None or not os.path.isfile(self._path)):
+            return None
+        return self.content()
+
+    def path(self) -> str:
+        """A file that has this content, under a name that is text: that of the path, or one that goes with `Files`."""
+        if self._path is None:
+            self._path = self._files.keep(self.name, self.content() or b"")
+        elif not _is_text(self._path):
+            self._path = self._files.link(self.name, self._path)
+        return self._path
+
+    @property
+    def most_bytes(self) -> int:
+        """How many bytes a line of a manifest has at most that names it."""
+        return 1 + max(_MOST_OF_KEPT, len((self._path or "").encode("utf-8", "surrogateescape")))
+
+    def beside(self) -> Sequence[Given]:
+        """The files that this one names."""
+        return ()
+
+
+class Manifest(Given):
+    """A manifest of files. `names` are those that it had in the last call."""
+
+    def __init__(self, files: Files, listed: Sequence[Given]) -> None:
+        super().__init__(files, "manifest.txt")
+        self.names: Sequence[str] = ()
+        self._listed = listed
+
+    def content(self) -> Optional[bytes]:
+        return self._of([given.name for given in self._listed])
+
+    def path(self) -> str:
+        paths = [given.path() for given in self._listed]
+        for path in paths:
+            if not path or "\n" in path or path.endswith("\r"):
+                raise ValueError(f"a manifest can't name the file {path!r}")
+        return self._files.keep(self.name, self._of(paths))
+
+    def beside(self) -> Sequence[Given]:
+        return self._listed
+
+    def _of(self, names: Sequence[str]) -> bytes:
+        self.names = names
+        return "".join(f"{name}\n" for name in names).encode("utf-8", "surrogateescape")
+
 
 class Files:
-    """Names of files for what a call is handed; what isn't a file is written to one, which goes at the end."""
+    """What a call is handed. What the program needs as files, and isn't one, goes at the end."""
 
     def __init__(self) -> None:
         self._room: Optional[tempfile.TemporaryDirectory[str]] = None
@@ -84,60 +187,94 @@ class Files:
         if self._room is not None:
             self._room.cleanup()
 
-    def rule(self, rule: RuleLike) -> str:
-        """The file of a rule. A string that holds a semicolon is the text of a rule file, any other a file's name."""
+    def rule(self, rule: RuleLike) -> Given:
+        """The file of a rule.
+
+        A string with a semicolon is the text of a rule file; one of the form of a term is that term; any other is a
+        file's name.
+        """
         if isinstance(rule, Term):
-            return self._keep("rule.vir", f"rule = {rule};\n".encode())
+            return self._term(str(rule))
+        if isinstance(rule, str) and ";" not in rule and _is_term(rule):
+            return self._term(rule)
         return self.path_or_text("rule.vir", rule, ";")
 
-    def profile(self, profile: ProfileLike, name: str = "profile.soc") -> str:
+    def profile(self, profile: ProfileLike, name: str = "profile.soc") -> Given:
         """The file of a profile, of this name where it has none.
 
         A string that holds a line feed is the text of a profile, any other a file's name.
         """
         if isinstance(profile, Profile):
-            return self._keep(name, profile.text())
+            return Given(self, name, None, profile.text())
         if isinstance(profile, (str, bytes, os.PathLike)):
             return self.path_or_text(name, profile, "\n")
-        return self._keep(name, Profile.of(profile).text())
+        return Given(self, name, None, Profile.of(profile).text())
 
-    def manifest(self, paths: Sequence[str]) -> str:
-        """A manifest of these files. A name that no manifest can hold is a ValueError."""
-        for path in paths:
-            if not path or "\n" in path or path.endswith("\r"):
-                raise ValueError(f"a manifest can't name the file {path!r}")
-        return self._keep("manifest.txt", "".join(f"{path}\n" for path in paths).encode("utf-8", "surrogateescape"))
+    def manifest(self, listed: Sequence[Given]) -> Manifest:
+        """A manifest of these files."""
+        return Manifest(self, listed)
 
-    def path_or_text(self, name: str, given: PathOrText, sign: str) -> str:
+    def path_or_text(self, name: str, given: PathOrText, sign: str) -> Given:
         """The file itself, or one of this name for a text: bytes, or a string that holds the sign."""
         if isinstance(given, bytes):
-            return self._keep(name, given)
+            return Given(self, name, None, given)
         if isinstance(given, str) and sign in given:
-            return self._keep(name, given.encode("utf-8", "surrogateescape"))
-        return os.fspath(given)
+            return Given(self, name, None, given.encode("utf-8", "surrogateescape"))
+        return Given(self, name, os.fspath(given))
 
-    def _keep(self, name: str, content: bytes) -> str:
-        if self._room is None:
-            self._room = tempfile.TemporaryDirectory(prefix="virage-")
-        path = Path(self._room.name, name)
+    def keep(self, name: str, content: bytes) -> str:
+        """A file of this name with this content, which goes at the end."""
+        path = Path(self._folder(), name)
         path.write_bytes(content)
         return str(path)
 
+    def link(self, name: str, path: str) -> str:
+        """Another name for a file, which goes at the end."""
+        place = os.path.join(self._folder(), name)
+        os.symlink(os.path.abspath(path), place)
+        return place
 
-def names_in(path: str, alternatives: int) -> Dict[int, str]:
-    """The names that an accepted profile gives; none where it is a pipe, which can be read only once."""
-    if not os.path.isfile(path):
+    def _folder(self) -> str:
+        if self._room is None:
+            self._room = tempfile.TemporaryDirectory(prefix="virage-")
+        return self._room.name
+
+    def _term(self, text: str) -> Given:
+        content = b"%s%s;\n" % (_RULE, text.encode("utf-8", "surrogateescape"))
+        return Given(self, "rule.vir", None, content, len(_RULE))
+
+
+def _is_term(text: str) -> bool:
+    """Whether a string is a term, or is meant as one: it has a term's signs, and no file has its name."""
+    try:
+        Term.read(text)
+    except ValueError:
+        return _TERM.fullmatch(text) is not None and not os.path.exists(text)
+    return True
+
+
+def _is_text(path: str) -> bool:
+    try:
+        path.encode("utf-8")
+    except UnicodeEncodeError:
+        return False
+    return True
+
+
+def names_in(given: Given, alternatives: int) -> Dict[int, str]:
+    """The names that an accepted profile gives; none where it is a pipe that the program has read."""
+    content = given.content_again() or b""
+    if b"NAME" not in content:
         return {}
     names: Dict[int, str] = {}
-    with open(path, "rb") as file:
-        for number, line in enumerate(file):
-            if b"#" not in line:
-                continue
-            found = _NAME.match(_trimmed(line[3:] if number == 0 and line.startswith(b"\xef\xbb\xbf") else line))
-            if found and len(found[1]) <= 4 and int(found[1]) <= alternatives:
-                names[int(found[1])] = _trimmed(found[2]).decode("utf-8", "surrogateescape")
+    for number, line in enumerate(content.split(b"\n")):
+        if b"#" not in line:
+            continue
+        found = _NAME.match(_trimmed(line[3:] if number == 0 and line.startswith(b"\xef\xbb\xbf") else line))
+        if found and len(found[1]) <= 4 and int(found[1]) <= alternatives:
+            names[int(found[1])] = _trimmed(found[2]).decode("utf-8", "surrogateescape")
     return {i: name for i, name in sorted(names.items()) if name}
 
 
 def _trimmed(line: bytes) -> bytes:
-    return line.rstrip(b"\n").strip(b" \t\r")
+    return line.strip(b" \t\r")

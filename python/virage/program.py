@@ -12,12 +12,13 @@ from pathlib import Path
 from typing import List, Optional, Union
 
 from .faults import NoProgram, fault_of
+from .profiles import Given
 
 # the script `virage` puts this before each line that it says of its build
 _SCRIPT = "virage: "
 
 # the folder of this module, and where it stands in the repository
-_HERE = Path(__file__).resolve().parent
+HERE = Path(__file__).resolve().parent
 _PLACE = Path("python", "virage")
 
 
@@ -40,6 +41,11 @@ class Program:
     module lies in, else the `virage` of the PATH.
     """
 
+    kind = "program"
+
+    # as many profiles as a manifest may name
+    most_profiles = 10_000
+
     def __init__(self, path: Union[str, os.PathLike[str], None] = None) -> None:
         found = os.fspath(path) if path is not None else _found()
         if found is None:
@@ -49,8 +55,11 @@ class Program:
     def __repr__(self) -> str:
         return f"Program({self.path!r})"
 
+    def __str__(self) -> str:
+        return f"program {self.path}"
+
     def direct(self) -> Program:
-        """The proved build itself, where this is a script that runs it now; else this program.
+        """The build itself, where this is a script that runs a proved one now, or an installed one; else this program.
 
         A script looks at all sources first, which takes most of the time of a short call. Who makes many calls can do
         without, once it has looked.
@@ -60,12 +69,17 @@ class Program:
         except OSError:
             return self
         found = re.search(rb"^build: proved, (/.*)$", ended.stdout, re.MULTILINE)
-        return Program(os.fsdecode(found[1])) if found else self
+        if found:
+            return Program(os.fsdecode(found[1]))
+        installed = Path(shutil.which(self.path) or self.path).resolve().parents[1] / "lib" / "virage" / "virage"
+        is_proved = re.search(rb"^build: proved, of ", ended.stdout, re.MULTILINE)
+        return Program(installed) if is_proved and os.access(installed, os.X_OK) else self
 
-    def run(self, *words: str) -> Answer:
-        """Calls the program with these words. Raises the fault, where there is no answer."""
+    def run(self, *words: Union[str, Given]) -> Answer:
+        """Calls the program with these words, and the files among them. Raises the fault, if no answer comes."""
+        said = [word.path() if isinstance(word, Given) else word for word in words]
         try:
-            ended = subprocess.run([self.path, *words], stdout=subprocess.PIPE, stderr=subprocess.PIPE, check=False)
+            ended = subprocess.run([self.path, *said], stdout=subprocess.PIPE, stderr=subprocess.PIPE, check=False)
         except OSError as stop:
             raise NoProgram(f"{self.path}: {stop.strerror}") from stop
         said = ended.stderr.decode("utf-8", "replace").splitlines()
@@ -81,14 +95,14 @@ def _found() -> Optional[str]:
     named = os.environ.get("VIRAGE")
     if named:
         return named
-    return _of_repository() or shutil.which("virage")
+    return of_repository() or shutil.which("virage")
 
 
-def _of_repository() -> Optional[str]:
+def of_repository() -> Optional[str]:
     """The script of the repository, where this module is in one and not in a copy that was installed."""
-    top = _HERE.parents[1]
+    top = HERE.parents[1]
     script = top / "virage"
-    if _HERE == top / _PLACE and (top / "crates.txt").is_file() and os.access(script, os.X_OK):
+    if HERE == top / _PLACE and (top / "crates.txt").is_file() and os.access(script, os.X_OK):
         return str(script)
     return None
 

@@ -1,8 +1,8 @@
 """The rules of derivation and the properties, read from the page docs/RULES.md, which lies beside an installed module.
 
 Rules are matched with judgements here, so that each node of a derivation can be told what it concludes. What a word of
-the page stands for is what the page says: m and n are the parts of a term, t is the whole or the other term, k a number
-and o a fixed order.
+the page stands for is what the page says: m and n are the parts of a term, t is the whole term and u the other one, k a
+number and o a fixed order.
 """
 
 from __future__ import annotations
@@ -23,7 +23,7 @@ _RULE = re.compile(r'\| (\d+) \| <a id="[^"]*"></a>`([^`]*)` \| (.*?) \| ?(.*?) 
 _PROPERTY = re.compile(r'\| <a id="property-([^"]*)"></a>`([^`]*)` \| (.*?) \| (.*?) \|$')
 _WHY = re.compile(r"- `([a-z0-9-]+)`: (.*)$")
 _NOTES = ("Lifts", "Renaming", "Disjoint terms")
-_LETTERS = ("k", "m", "n", "o", "t")
+_LETTERS = ("k", "m", "n", "o", "t", "u")
 
 Value = Union[Term, int, Tuple[int, ...]]
 
@@ -45,7 +45,7 @@ class Judgement:
         words = text.split(" ")
         if len(words) < 3 or words[1::2] != ["of", "and"][: len(words) // 2] or len(words) % 2 == 0:
             raise ValueError(f"not a judgement: {text!r}")
-        return cls(words[0], tuple(map(Term.read, words[2::2])))
+        return cls(words[0], tuple(map(Term.printed, words[2::2])))
 
     def __str__(self) -> str:
         return f"{self.property} of {' and '.join(map(str, self.terms))}"

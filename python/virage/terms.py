@@ -4,9 +4,14 @@ from __future__ import annotations
 
 import re
 from dataclasses import dataclass
+from functools import cached_property
 from typing import Dict, Iterator, List, Optional, Tuple, Union
 
-_TOKENS = re.compile(r"[A-Za-z][A-Za-z0-9_-]*|[0-9]+|[][(),]")
+_TOKENS = re.compile(r"[A-Za-z][A-Za-z0-9_-]*|[0-9]+|[(),]|\[[0-9]+(?:,[0-9]+)*\]")
+_BLANKS = re.compile(r"[ \t\r\n]+")
+
+# blanks that have to stand where they do
+_BETWEEN_WORDS = re.compile(r"[A-Za-z0-9_-][ \t\r\n]+[A-Za-z0-9_-]")
 
 # what each word takes, in order
 _TAKES: Dict[str, Tuple[str, ...]] = {
@@ -50,10 +55,24 @@ class Term:
 
     @classmethod
     def read(cls, text: str) -> Term:
-        """The term of a printed text. Anything else is a ValueError; names of a rule file aren't known here."""
+        """The term of a text, which may have blanks between its words and signs, as the term of a rule file may.
+
+        Anything else is a ValueError; names of a rule file aren't known here.
+        """
+        if _BETWEEN_WORDS.search(text):
+            raise ValueError(f"two words without a sign between them: {text!r}")
+        return term_of(read_tree(_BLANKS.sub("", text)))
+
+    @classmethod
+    def printed(cls, text: str) -> Term:
+        """The term of a text just as the program prints it, so without blanks. Anything else is a ValueError."""
         return term_of(read_tree(text))
 
     def __str__(self) -> str:
+        return self._text
+
+    @cached_property
+    def _text(self) -> str:
         return self.head(*map(str, self.parts))
 
     def __repr__(self) -> str:
@@ -69,9 +88,11 @@ class Term:
 
     def preorder(self) -> Iterator[Term]:
         """The term and all its parts, each before its own parts, from left to right."""
-        yield self
-        for part in self.parts:
-            yield from part.preorder()
+        left = [self]
+        while left:
+            term = left.pop()
+            yield term
+            left += reversed(term.parts)
 
     @property
     def size(self) -> int:
@@ -80,59 +101,81 @@ class Term:
 
 
 def read_tree(text: str) -> Tree:
-    """The tree of a text without blanks. Anything else is a ValueError."""
+    """The tree of a text without blanks. Anything else is a ValueError. Equal trees in it are one object."""
     tokens = _TOKENS.findall(text)
     if "".join(tokens) != text:
-        raise ValueError(f"not a printed text: {text!r}")
-    reader = _Reader(tokens)
-    tree = reader.argument()
-    if reader.peek() or not isinstance(tree, Tree):
-        raise ValueError(f"not one tree: {text!r}")
-    return tree
+        raise ValueError(f"not a printed text: {_shortened(text)!r}")
+    reader = _Reader()
+    for token in tokens:
+        reader.read(token)
+    return reader.tree(text)
+
+
+def _shortened(text: str) -> str:
+    return text if len(text) <= 200 else text[:200] + ".."
 
 
 class _Reader:
-    """Tokens, and how many of them are read."""
+    """What is read of a text, a token at a time. A text of megabytes has few trees that differ."""
 
-    def __init__(self, tokens: List[str]) -> None:
-        self._tokens = tokens
-        self._at = 0
+    def __init__(self) -> None:
+        # the words whose parentheses are open, each with the arguments before it
+        self._open: List[Tuple[str, List[Argument]]] = []
+        self._arguments: List[Argument] = []
+        # a word that stands last, so that a parenthesis may follow
+        self._word: Optional[str] = None
+        self._wants = True
+        self._trees: Dict[Tuple[object, ...], Tree] = {}
 
-    def peek(self) -> str:
-        return self._tokens[self._at] if self._at < len(self._tokens) else ""
-
-    def take(self) -> str:
-        token = self.peek()
-        self._at += 1
-        return token
-
-    def argument(self) -> Argument:
-        token = self.take()
-        if token.isdigit():
-            return int(token)
-        if token == "[":
-            return self._numbers()
-        if not token[:1].isalpha():
+    def read(self, token: str) -> None:
+        if token in "(),":
+            self._sign(token)
+        elif not self._wants:
             raise ValueError(f"{token!r} isn't expected")
-        if self.peek() != "(":
-            return Tree(token)
-        self.take()
-        arguments = [self.argument()]
-        while self._goes_on(")"):
-            arguments.append(self.argument())
-        return Tree(token, tuple(arguments))
+        else:
+            self._wants = False
+            if token[0].isalpha():
+                self._word = token
+            elif token[0] == "[":
+                self._arguments.append(tuple(map(int, token[1:-1].split(","))))
+            else:
+                self._arguments.append(int(token))
 
-    def _numbers(self) -> Tuple[int, ...]:
-        numbers = [int(self.take())]
-        while self._goes_on("]"):
-            numbers.append(int(self.take()))
-        return tuple(numbers)
-
-    def _goes_on(self, end: str) -> bool:
-        token = self.take()
-        if token not in (",", end):
+    def _sign(self, token: str) -> None:
+        word, self._word = self._word, None
+        if self._wants or (token == "(" and word is None):
             raise ValueError(f"{token!r} isn't expected")
-        return token == ","
+        if token == "(" and word is not None:
+            self._open.append((word, self._arguments))
+            self._arguments = []
+            self._wants = True
+            return
+        if word is not None:
+            self._arguments.append(self._one(word, ()))
+        if not self._open:
+            raise ValueError(f"{token!r} isn't expected")
+        if token == ",":
+            self._wants = True
+        else:
+            word, before = self._open.pop()
+            before.append(self._one(word, tuple(self._arguments)))
+            self._arguments = before
+
+    def tree(self, text: str) -> Tree:
+        """The tree of all that was read."""
+        if self._word is not None:
+            self._arguments.append(self._one(self._word, ()))
+        if self._wants or self._open or not isinstance(self._arguments[0], Tree):
+            raise ValueError(f"not one tree: {_shortened(text)!r}")
+        return self._arguments[0]
+
+    def _one(self, word: str, arguments: Tuple[Argument, ...]) -> Tree:
+        """The one tree of this word and these arguments, of which each tree is the one that it is."""
+        key = (word, *[id(it) if isinstance(it, Tree) else (it,) for it in arguments])
+        found = self._trees.get(key)
+        if found is None:
+            found = self._trees[key] = Tree(word, arguments)
+        return found
 
 
 def term_of(tree: Argument) -> Term:
