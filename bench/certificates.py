@@ -82,7 +82,22 @@ def faulty():
     yield with_mono("too-long", "n" * (room() + 1), 1, f"TextTooLong at byte {LONGEST}")
 
 
-for certificates in valid, large, faulty:
+def of_a_term(name, before, part, behind):
+    """A term of so many of a part, with a comma between, as a certificate has room for: none, and told so at once."""
+    start = "virage-certificate 1\nterm " + before
+    text = ",".join([part] * ((LONGEST - len(start) - len(behind) + 1) // (len(part) + 1)))
+    return Certificate(name, start + text + behind, 1, f"WrongCountOfArguments at byte {len(start) - len(before)}")
+
+
+def bulky():
+    """Terms that are read whole before the first fault is told."""
+    yield of_a_term("term-words", "elect(", "a", ")")
+    yield of_a_term("term-calls", "elect(", "a(a)", ")")
+    yield of_a_term("term-deep", "elect(", nested("a", 79, "a"), ")")
+    yield of_a_term("term-numbers", "elect([", "1", "])")
+
+
+for certificates in valid, large, faulty, bulky:
     for certificate in certificates():
         assert len(certificate.text) <= LONGEST or certificate.name == "too-long", certificate.name
         with open(f"{sys.argv[1]}/{certificate.name}", "w") as file:

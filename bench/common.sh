@@ -32,7 +32,9 @@ yardstick() {
   command -v rustc >/dev/null && rustc -O --edition 2021 "$@" "$top/bench/plain/main.rs" -o "$room/$name"
 }
 
-# measure_call PROGRAM WORDS..: seconds, kilobytes and instructions of a call; its output goes to $room/said
+# measure_call PROGRAM WORDS..: seconds, kilobytes and instructions of a call; its output goes to $room/said. Callgrind
+# counts an instruction that fills memory (`rep stos`) once for each byte that it fills, though the processor takes many
+# at a time: so whoever fills memory stands worse in instructions than in seconds.
 measure_call() {
   local seconds=- peak=- instructions=-
   if [ -x /usr/bin/time ]; then

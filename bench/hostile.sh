@@ -44,6 +44,21 @@ write("order-of-one-number", "r = pass(1,[" + ",".join(["7"] * 500000) + "]);")
 write("every-byte", bytes(range(256)) * 4096)
 write("line-ends", "r = elect;\r\n".encode() + b"# more\r\n" * 100000)
 write("too-long", b"#" * 1048577)
+
+import itertools, string
+behind_letter = string.ascii_letters + string.digits + "_-"
+built_in = {"rev", "seq", "par", "max", "min"}
+names = [n for n in map("".join, itertools.product(string.ascii_letters, behind_letter, behind_letter))
+         if n not in built_in]
+def balanced(part, parts):
+    return part if parts == 1 else f"seq({balanced(part, parts // 2)},{balanced(part, parts - parts // 2)})"
+def named(before, term):
+    """These definitions, and behind them as many of a term, each under a new name, as a rule file has room for."""
+    room = (1048576 - len(before)) // len(f"aaa={term};")
+    return before + "".join(f"{name}={term};" for name in names[:room])
+full_order = "p0=pass(1,[" + ",".join(str(i) for i in range(1, 1025)) + "]);"
+write("names-of-full-orders", named(full_order + "f0=" + balanced("p0", 100) + ";", "f0"))
+write("names-of-199-modules", named("f0=" + balanced("elect", 100) + ";", "rev(f0)"))
 PY
 
 printf '%-24s %9s  %-42s %8s %9s\n' file bytes answer seconds 'peak KiB'

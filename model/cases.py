@@ -98,6 +98,13 @@ class CaseMaker(CertificateMaker):
         words, files = self.count_case()
         return ['report'] + words[1:], files
 
+    def explain_case(self):
+        words, files = self.count_case()
+        return ['explain'] + words[1:], files
+
+    def pairs_case(self):
+        return self.one_file('pairs', self.some_soc(), usual='F')
+
     def prove_case(self):
         property = self.property()
         rule = self.rule_file() if self.happens(0.8) else self.bad_rule_file()

@@ -1,5 +1,6 @@
 #!/usr/bin/env python3
-"""Compares a program with the model on generated cases: standard output, standard error and the status.
+"""Compares a program, or the library for C, with the model on generated cases: standard output, standard error and the
+status.
 
 Cases that differ are shown, made smaller as long as they differ in the same way, and saved. The last line is
 `N passed, M failed`, and the status is 1 where one failed.
@@ -12,7 +13,7 @@ import subprocess
 import sys
 import tempfile
 from concurrent.futures import ProcessPoolExecutor
-from functools import partial
+from functools import lru_cache, partial
 from pathlib import Path
 from typing import NamedTuple
 
@@ -28,13 +29,30 @@ class Difference(NamedTuple):
     got: tuple
 
 
+@lru_cache(maxsize=None)
+def loaded(path):
+    """The library of this path, in this process."""
+    sys.path.insert(0, str(Path(__file__).resolve().parents[1] / 'python'))
+    from virage import Library
+    return Library(path)
+
+
 class Setting(NamedTuple):
-    """The program, the commands that it has, and for how many seconds it may run."""
+    """The program, the commands that it has, for how many seconds it may run, and whether it is a library."""
     program: str
     commands: tuple
     seconds: float
+    is_library: bool = False
 
     def run(self, words, files):
+        """What is answered of these files."""
+        if not self.is_library:
+            return self.run_in_a_folder(words, files)
+        said = [word.encode('utf-8', 'surrogateescape') for word in words]
+        held = [(name.encode('utf-8', 'surrogateescape'), content) for name, content in files.items()]
+        return loaded(self.program).call(said, held)
+
+    def run_in_a_folder(self, words, files):
         """What the program answers in a new folder with these files."""
         with tempfile.TemporaryDirectory(prefix='virage_model_') as folder:
             for name, content in files.items():
@@ -111,7 +129,8 @@ def compare(setting, options):
 
 def read_options():
     parser = argparse.ArgumentParser(description=__doc__, formatter_class=argparse.RawDescriptionHelpFormatter)
-    parser.add_argument('program', help='the built program')
+    parser.add_argument('program', help='the built program, or with --library the built library')
+    parser.add_argument('--library', action='store_true', help='it is the library for C, and is called in this process')
     parser.add_argument('--without', default='', metavar='NAMES',
                         help='commands, with commas, that the program lacks: their words are then usage faults')
     parser.add_argument('--only', metavar='NAMES', help='commands to be tried, with commas; `words` are odd words')
@@ -132,7 +151,7 @@ def main():
     if unknown:
         sys.exit(f'no such command: {", ".join(unknown)}')
     commands = tuple(name for name in COMMANDS if name not in lacking)
-    return compare(Setting(os.path.abspath(options.program), commands, options.seconds), options)
+    return compare(Setting(os.path.abspath(options.program), commands, options.seconds, options.library), options)
 
 
 if __name__ == '__main__':

@@ -9,6 +9,7 @@ from derivations import Derivation, Deriver, derivation_text, first_bad_node, re
 from devices import PIECE, Failed, FolderShelf, MemoryShelf, MemorySink, StreamSink, read_whole, write_whole
 from drill import drill_file, drill_terms
 from equations import simplified
+from explanations import TooLong, explanation, pairs_text
 from manifests import LONGEST_MANIFEST, read_manifest
 from meaning import eliminate
 from positions import positional_scores
@@ -24,6 +25,9 @@ from violations import judged_case
 from words import COMMANDS, command_of
 
 DONE, DENIED, USAGE, TEXT, PROFILE, READ, WRITE, UNSERVED = 0, 1, 2, 3, 4, 5, 6, 8
+
+# the most bytes of what `explain` prints, with the lines that stand first
+LONGEST_EXPLANATION = 268_435_456
 
 
 class Stop(Exception):
@@ -48,12 +52,20 @@ def finding_text(property, finding):
     return f'underived {property_text(property)}\n{reasons_text(finding)}'
 
 
-def report_text(term, file, split):
-    head = f'rule {term_text(term)}\nalternatives {file.alternatives}\nvoters {file.voters()}\n'
+def profile_head(file):
+    """The lines that say of what profile a text is."""
     names = b''.join(b'name %d: %s\n' % name for name in file.names)
+    return f'alternatives {file.alternatives}\nvoters {file.voters()}\n'.encode() + names
+
+
+def head_of(term, file):
+    return f'rule {term_text(term)}\n'.encode() + profile_head(file)
+
+
+def report_text(term, file, split):
     deriver = Deriver()
     findings = [finding_text(property, deriver.finding(property, term)) for property in REPORTED]
-    return head.encode() + names + (result_text(split) + ''.join(findings)).encode()
+    return head_of(term, file) + (result_text(split) + ''.join(findings)).encode()
 
 
 class Call:
@@ -112,6 +124,19 @@ class Call:
 
     def report(self, rule, soc):
         return DONE, report_text(*self.counted(rule, soc))
+
+    def explain(self, rule, soc):
+        term, file = self.rule(rule), self.accepted_soc(soc)
+        profile, head = file.profile(), head_of(term, file)
+        try:
+            return DONE, head + explanation(term, profile.members, Tally(profile), LONGEST_EXPLANATION - len(head))
+        except TooLong:
+            return DENIED, 'explanation too long\n'
+
+    def pairs(self, soc):
+        file = self.accepted_soc(soc)
+        profile = file.profile()
+        return DONE, profile_head(file) + pairs_text(profile, Tally(profile)).encode()
 
     def prove(self, rule, property):
         term = self.rule(rule)

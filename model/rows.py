@@ -15,6 +15,7 @@ from made_certificates import CertificateMaker
 from meaning import literal_meaning, meaning, meaning_on, score
 from positions import positional_scores
 from profiles import Tally, condorcet_winner, pair_table, restricted
+import program
 from program import answer, virage
 from properties import WORDS, Property
 from rule_files import read_rule_file
@@ -111,6 +112,49 @@ REFUTED = (
 SIMPLER = (
     ('seq(defer,seq(rev(elect),max(borda)))', 'max(borda)', 'rev-elect 3, seq-defer-left 2, seq-defer-left 0'),
     ('rev(rev(plurality))', 'rev(defer)', 'rev-rev 0'), (COPELAND, COPELAND, ''))
+
+
+FIVE_WAYS = (TOP / 'examples/profiles/five-ways.soc').read_bytes()
+TIED = (TOP / 'examples/profiles/tied.soc').read_bytes()
+NO_LINES = b'# NUMBER ALTERNATIVES: 3\n'
+
+# rule, profile, and the scores of each visit that has some: first places and Borda scores that were added up by hand
+ROUNDS = (
+    (RUNOFF, FIVE_WAYS, ('1=18 2=12 3=10 4=9 5=6', '1=18 2=16 3=12 4=9', '1=18 2=16 3=21', '1=18 3=37')),
+    ('seq(loop(1,min(borda)),elect)', FIVE_WAYS,
+     ('1=72 2=101 3=107 4=136 5=134', '2=64 3=70 4=99 5=97', '3=31 4=70 5=64', '4=27 5=28')),
+    ('seq(max(condorcet),seq(max(borda),elect))', TIED, ('1=0 2=0 3=0 4=0', '1=17 2=16 3=13 4=20')),
+    ('max(copeland)', DIVIDED, ('1=-2 2=2 3=0',)), (DUELS, DIVIDED, ('1=4 2=5', '2=7 3=2')))
+
+# rule, profile, and the paragraphs
+TOLD = (
+    ('plurality', NO_LINES,
+     ('at 0 plurality\nof: 1 2 3\nscores: 1=0 2=0 3=0\nelected: 1 2 3\nrejected:\ndeferred:',)),
+    ('seq(plurality,loop(1,max(borda)))', DIVIDED,
+     ('at 1 plurality\nof: 1 2 3\nscores: 1=4 2=3 3=2\nelected: 1\nrejected: 2 3\ndeferred:',
+      'at 3 max(borda)\nof:\nscores:\nelected:\nrejected:\ndeferred:',
+      'at 2 loop(1)\nof:\nelected:\nrejected:\ndeferred:',
+      'at 0 seq\nof: 1 2 3\nelected: 1\nrejected: 2 3\ndeferred:')),
+    ('until(2,min(plurality))', DIVIDED,
+     ('at 1 min(plurality)\nof: 1 2 3\nscores: 1=4 2=3 3=2\nelected:\nrejected: 3\ndeferred: 1 2',
+      'at 0 until(2)\nof: 1 2 3\nelected:\nrejected: 3\ndeferred: 1 2')),
+    ('loop(1,par(drop(1),rev(drop(2,[2]))))', DIVIDED,
+     ('at 2 drop(1)\nof: 1 2 3\nelected:\nrejected: 1\ndeferred: 2 3',
+      'at 4 drop(2,[2])\nof: 1 2 3\nelected:\nrejected: 1 2\ndeferred: 3',
+      'at 3 rev\nof: 1 2 3\nelected:\nrejected: 1 2 3\ndeferred:',
+      'at 1 par\nof: 1 2 3\nelected:\nrejected: 1\ndeferred: 2 3',
+      'at 2 drop(1)\nof: 2 3\nelected:\nrejected: 2\ndeferred: 3',
+      'at 4 drop(2,[2])\nof: 2 3\nelected:\nrejected: 2 3\ndeferred:',
+      'at 3 rev\nof: 2 3\nelected:\nrejected: 2 3\ndeferred:',
+      'at 1 par\nof: 2 3\nelected:\nrejected: 2\ndeferred: 3',
+      'at 0 loop(1)\nof: 1 2 3\nelected:\nrejected: 1 2\ndeferred: 3')))
+
+# profiles, and what `pairs` prints of them
+PAIRS = (
+    (DIVIDED, 'alternatives 3\nvoters 9\nprefer 1: 0 4 4\nprefer 2: 5 0 7\nprefer 3: 5 2 0\ncondorcet winner: 2\n'),
+    (CIRCLE, 'alternatives 3\nvoters 3\nprefer 1: 0 2 1\nprefer 2: 1 0 2\nprefer 3: 2 1 0\ncondorcet winner: none\n'),
+    (NO_LINES, 'alternatives 3\nvoters 0\nprefer 1: 0 0 0\nprefer 2: 0 0 0\nprefer 3: 0 0 0\ncondorcet winner: none\n'),
+    (b'# NUMBER ALTERNATIVES: 1\n', 'alternatives 1\nvoters 0\nprefer 1: 0\ncondorcet winner: 1\n'))
 
 
 class Rows:
@@ -225,6 +269,23 @@ def other_commands(rows):
                line + 'G refused Short at line 2\n' + line + 'profiles 3 refused 1\n')
 
 
+def explanations(rows):
+    for text, data, scores in ROUNDS:
+        told = answer(['explain', 'R', 'F'], {'R': rule(text), 'F': data})[1].decode().splitlines()
+        rows.equal(f'rounds of {text}', tuple(line[8:] for line in told if line.startswith('scores:')), scores)
+    for text, data, paragraphs in TOLD:
+        told = answer(['explain', 'R', 'F'], {'R': rule(text), 'F': data})[1].decode()
+        rows.equal(f'{text} told', told.split('\n\n')[1:], [paragraph + '\n' * (paragraph is paragraphs[-1])
+                                                           for paragraph in paragraphs])
+    for data, told in PAIRS:
+        rows.equal(f'pairs of {data}', answer(['pairs', 'F'], {'F': data})[1].decode(), told)
+    longest, text = program.LONGEST_EXPLANATION, answer(['explain', 'R', 'F'], {'R': rule(RUNOFF), 'F': DIVIDED})
+    for room, said in ((len(text[1]), text), (len(text[1]) - 1, (1, b'explanation too long\n', b''))):
+        program.LONGEST_EXPLANATION = room
+        rows.equal(f'{room} bytes', answer(['explain', 'R', 'F'], {'R': rule(RUNOFF), 'F': DIVIDED}), said)
+    program.LONGEST_EXPLANATION = longest
+
+
 def devices(rows):
     files = {'R': rule('plurality'), 'F': DIVIDED}
     text = answer(['count', 'R', 'F'], files)[1]
@@ -247,11 +308,15 @@ def devices(rows):
 def recorded(rows):
     """What is recorded of the examples."""
     for path in sorted((TOP / 'examples/expected').iterdir()):
-        of, _, profile = path.name.removeprefix('report.').partition('.')
-        command = 'report' if path.name.startswith('report.') else 'count'
-        files = {'R': (TOP / f'examples/rules/{of}.vir').read_bytes(),
-                 'F': (TOP / f'examples/profiles/{profile}.soc').read_bytes()}
-        rows.equal(path.name, answer([command, 'R', 'F'], files), (0, path.read_bytes(), b''))
+        command, _, named = path.name.partition('.')
+        if command not in ('report', 'explain', 'pairs'):
+            command, named = 'count', path.name
+        of, _, profile = named.rpartition('.')
+        files = {'F': (TOP / f'examples/profiles/{profile}.soc').read_bytes()}
+        if of:
+            files['R'] = (TOP / f'examples/rules/{of}.vir').read_bytes()
+        words = [command, 'R', 'F'] if of else [command, 'F']
+        rows.equal(path.name, answer(words, files), (0, path.read_bytes(), b''))
 
 
 def laws_of_meanings(rows, maker, case):
@@ -302,7 +367,7 @@ def laws_of_certificates(rows, maker, case):
 
 def main():
     rows = Rows()
-    for part in (elections, refusals, judgements, other_commands, devices, recorded):
+    for part in (elections, refusals, judgements, other_commands, explanations, devices, recorded):
         part(rows)
     for case in range(int(sys.argv[1]) if len(sys.argv) > 1 else 300):
         maker = CertificateMaker(f'rows/{case}')

@@ -10,10 +10,12 @@ from terms import ELIMINATIONS, GREATEST_NUMBER, is_module, term_text
 from tokens import Fault, is_number, number_of, tokens_of
 
 COMMANDS = (
-    'count', 'report', 'prove', 'check', 'synth', 'drill', 'listing', 'position', 'refute', 'simplify', 'batch')
+    'count', 'report', 'prove', 'check', 'synth', 'drill', 'listing', 'position', 'refute', 'simplify', 'batch',
+    'explain', 'pairs')
 
 # how many words may stand behind these commands, which are all names of files
-FILES = {'count': 2, 'report': 2, 'batch': 2, 'check': 1, 'listing': 1, 'simplify': 1}
+FILES = {
+    'count': 2, 'report': 2, 'explain': 2, 'batch': 2, 'check': 1, 'listing': 1, 'simplify': 1, 'pairs': 1}
 
 GREATEST_SEARCH = 15
 MOST_MODULES = 64
