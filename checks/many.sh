@@ -67,8 +67,40 @@ check_array() {
 
 check_parallel() {
   "$many/cut" names 9 parallel >/dev/null
-  "$many/undone" parallel | parallel --jobs 2 "$many/part" "$rule" {} || wrong "GNU parallel fails"
+  "$many/undone" parallel | parallel --quote --jobs 2 "$many/part" "$rule" {} || wrong "GNU parallel fails"
   check_joined parallel
+}
+
+# What can't be cut is refused, and leaves no folder behind.
+check_refused_cuts() {
+  local call
+  for call in "names 0" "names 10001" "names abc" "missing 5"; do
+    # shellcheck disable=SC2086
+    if "$many/cut" $call left >/dev/null 2>&1 || [ -e left ]; then wrong "'cut $call left' isn't refused"; fi
+  done
+  mkdir there
+  if "$many/cut" names 5 there >/dev/null 2>&1 || [ ! -d there ]; then wrong "a folder that is there is cut into"; fi
+}
+
+# Parts have no more bytes than a manifest may have.
+check_long_names() {
+  seq -f "%0131.0f" 10000 >long
+  "$many/cut" long 10000 long-parts >/dev/null
+  if find long-parts -size +1048576c | grep -q .; then wrong "a part is longer than a manifest may be"; fi
+  if ! cat long-parts/part.????? | cmp -s - long; then wrong "long names are lost"; fi
+}
+
+# The table of two rules has a row for each and each name, and says who is elected as the answers do.
+check_table() {
+  local first=$rule second=$top/examples/rules/plurality.vir
+  VIRAGE=$virage "$many/table" names "$first" "$second" >table 2>complaint || wrong "no table is made"
+  if [ "$(wc -l <table)" -ne 101 ]; then wrong "the table doesn't have 100 rows below its head"; fi
+  if [ "$(grep -c '"profiles/votes [0-9]*0.soc",,,,,Short at line 4$' table)" -ne 10 ]; then
+    wrong "the table doesn't have the refused profiles"
+  fi
+  sed -n '2,51{s/^"[^"]*","[^"]*",//;p}' table | awk -F, '$1 != "" { print $1 "," $2 }' >listed
+  sed -n 's/.* voters \([0-9]*\) elected: \([0-9 ]*\) rejected.*/\1,\2/p' whole >told
+  if ! cmp -s listed told; then wrong "the table and the answer differ"; fi
 }
 
 check_empty() {
@@ -87,6 +119,9 @@ write_manifest
 check_parts
 check_array
 check_empty
+check_refused_cuts
+check_long_names
+check_table
 skipped=
 if command -v parallel >/dev/null && parallel --version 2>/dev/null | grep -q '^GNU parallel'; then
   check_parallel

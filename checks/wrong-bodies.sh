@@ -11,7 +11,7 @@ table() {
   local crate edit names
   echo "| Crate | Wrong bodies |"
   echo "|---|---|"
-  sed -n 's/^\([a-z0-9_]*\):.*/\1/p' crates.txt | while read -r crate; do
+  sed -n 's/^\([a-z0-9_]*\)\( staticlib\)\{0,1\}:.*/\1/p' crates.txt | while read -r crate; do
     names=
     for edit in "crates/$crate/must-fail/"*.edit; do
       [ -f "$edit" ] && names+=", \`$(basename "$edit" .edit)\`"

@@ -1,5 +1,7 @@
 # Help for whoever calls virage, and the call itself. The script of a checkout and the installed command both read this
-# file, and set `tables`, the folder of the tables beside it, and `called`, how they are called.
+# file, and set `tables`, the folder of the tables beside it, `called`, how they are called, and `place_tool`, the tool
+# that shows a place of a file.
+. "$tables/told.sh"
 
 say() {
   echo "virage: $1" >&2
@@ -44,6 +46,34 @@ tell_word() {
   printf '  %-14s%s%s\n' "${row[word]}" "${row[is]}" "${row[ending]:+ (*.${row[ending]})}"
 }
 
+# Prints the row of a command that `asked` names, with what its words are.
+tell_asked() {
+  if [ "${row[command]}" != "$asked" ]; then return; fi
+  printf 'virage %s %s\n%s.\n%s\n' "${row[command]}" "${row[words]}" "${row[does]^}" "${row[more]}" |
+    sed -z 's/\n\.[A-Z][a-z] / /g; s/ Ql / /g; s/ \([,.:;]\)/\1/g' | fold -s -w 80
+  printf '\n'
+  asked_words=" ${row[words]//[][]/} "
+  each_row words tell_asked_word
+  printf '\n  %s %s\n' "$called" "${row[example]}"
+}
+
+tell_asked_word() {
+  case $asked_words in *" ${row[word]} "*) tell_word ;; esac
+}
+
+# Prints help on what is asked: a command, or the properties.
+tell_about() {
+  local asked=$1 asked_words
+  if [ "$asked" = properties ]; then
+    grep -v '^#' "$tables/properties" | sed 's/^\([^:]*\): /  \1\n    /'
+  elif find_form "$asked"; then
+    each_row commands tell_asked
+  else
+    say "there is no command '$asked'; '$called help' has the commands"
+    return 2
+  fi
+}
+
 # Prints the summary, where $1 is the folder that the examples are run in and $2 where there is more.
 tell_summary() {
   printf 'virage counts ranked ballots with a voting rule, and tells what holds of the\n'
@@ -61,57 +91,36 @@ find_form() {
   [ -n "${forms[$1]+known}" ] && form=${forms[$1]}
 }
 
-# Whether the words are a command on files alone. Such words are never a usage fault; a word of other signs than ASCII
-# may be, since it may not be UTF-8.
-is_on_files() {
-  local LC_ALL=C form word
-  local -a parts
-  find_form "$@" || return 1
-  read -ra parts <<<"$form"
-  [ $# -eq $((${#parts[@]} + 1)) ] || return 1
-  for word in "${parts[@]}"; do
-    [ -n "${endings[$word]+known}" ] || return 1
-  done
-  case "$*" in *[!\ -~]*) return 1 ;; esac
-}
-
 # Has the checks of memory that an unproved build holds, which are slow, leave want of memory to the program.
 calm_checks() {
   export ASAN_OPTIONS=detect_leaks=0:detect_stack_use_after_return=0:allocator_may_return_null=1
 }
 
-# Says after a usage fault what the words should have been.
-say_how() {
-  local form
-  printf '%s' "$*" | iconv -f UTF-8 -t UTF-8 >/dev/null 2>&1
-  if [ "${PIPESTATUS[1]}" -eq 1 ]; then
-    say "a word isn't text in UTF-8"
-  elif find_form "$@"; then
-    say "a call is '$called $1 $form'; '$called help' says what these words are"
-  else
-    say "'$called help' has the commands"
-  fi
-}
-
-# Runs the program $1 with the further words and gives its status; after a usage fault it says how to ask for help.
-# The program ends where this process does, as far as the system can see to that.
+# Runs the program $1 with the further words and gives its status. Behind the program's line on standard error it says
+# more: which word is wrong, which file can't be read, or where a file has its fault. The program ends where this
+# process does, as far as the system can see to that; and where a file may grow no further, it is told so.
 run_here() {
-  local program=$1 status
+  local program=$1 status line
   local -a leash=()
   shift
   if setpriv --pdeathsig TERM true 2>/dev/null; then leash=(setpriv --pdeathsig TERM); fi
-  "${leash[@]}" "$program" "$@"
+  { line=$(trap '' XFSZ; "${leash[@]}" "$program" "$@" 2>&1 >&3 3>&-); } 3>&1
   status=$?
-  if [ "$status" -eq 2 ]; then say_how "$@"; fi
+  if [ -n "$line" ]; then printf '%s\n' "$line" >&2; fi
+  case $status in
+    2) say_how "$@" ;;
+    3) say_refused_text "${line##*$'\n'}" "$program" "$@" ;;
+    4) say_refused_profile "${line##*$'\n'}" "$program" "$@" ;;
+    5) say_unread "$@" ;;
+  esac
   return "$status"
 }
 
-# The same, and ends with the status. Where no usage fault can come, the program takes the place of this process.
+# The same, and ends with the status.
 run() {
   local program=$1
   shift
   read_forms
-  if is_on_files "$@"; then exec "$program" "$@"; fi
   run_here "$program" "$@"
   exit
 }

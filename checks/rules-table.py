@@ -1,15 +1,12 @@
-#!/usr/bin/env bash
-# Compares the rules of docs/RULES.md with the table of crates/vir_rules/specs: number, name, what each rule
-# concludes, and its premises. It prints a line; where they differ it names each rule that does, and ends with 1.
-set -u
-cd "$(dirname "$0")/.." || exit 1
-if ! command -v python3 >/dev/null; then
-  echo "table of rules: skipped, since python3 isn't here"
-  exit 0
-fi
-exec python3 - <<'PYTHON'
+#!/usr/bin/env python3
+"""Compares the rules of docs/RULES.md with the table of crates/vir_rules/specs: number, name, what each rule concludes,
+and its premises. It prints a line; where they differ it names each rule that does, and ends with 1."""
+import os
 import re
 import sys
+from pathlib import Path
+
+os.chdir(Path(__file__).resolve().parent.parent)
 
 SPECS = "crates/vir_rules/specs/"
 SCORES = ["Plurality", "Borda", "Copeland", "Minimax", "Condorcet"]
@@ -24,8 +21,8 @@ SHAPES = {
 PAIRINGS = {
     "pass_and_drop": "`pass(k,o)` and `drop(k,o)`, with the same k and the same o",
     "drop_and_pass": "`drop(k,o)` and `pass(k,o)`, with the same k and the same o",
-    "seq_left": "`seq(m,n)` and t", "seq_right": "t and `seq(m,n)`",
-    "rev_left": "`rev(m)` and t", "rev_right": "t and `rev(m)`",
+    "seq_left": "`seq(m,n)` and u", "seq_right": "u and `seq(m,n)`",
+    "rev_left": "`rev(m)` and u", "rev_right": "u and `rev(m)`",
 }
 
 
@@ -142,4 +139,3 @@ if differing or not coded:
     print("table of rules: docs/RULES.md DIFFERS from it")
     sys.exit(1)
 print(f"table of rules: docs/RULES.md has its {len(coded)} rules")
-PYTHON
