@@ -15,9 +15,22 @@ from typing import Any, Dict, List, Optional, Type
 BROWSER = shutil.which("chromium") or shutil.which("chromium-browser") or shutil.which("google-chrome")
 
 # how long an answer is waited for, in seconds
-_PATIENCE = 180.0
+_PATIENCE = 60.0
 
-_FLAGS = ["--headless=new", "--remote-debugging-pipe", "--disable-gpu", "--no-first-run", "--hide-scrollbars"]
+# a page that nobody looks at isn't slowed down, and the browser asks nothing of a small /dev/shm or of a network
+_FLAGS = """
+    --headless=new --remote-debugging-pipe --disable-gpu --no-first-run --hide-scrollbars --mute-audio
+    --disable-dev-shm-usage --disable-background-timer-throttling --disable-backgrounding-occluded-windows
+    --disable-renderer-backgrounding --disable-background-networking --disable-breakpad --disable-extensions
+    --disable-component-update --disable-sync --disable-hang-monitor
+""".split()
+
+# what the browser tells where the page's process has ended
+_CRASHES = ("Inspector.targetCrashed", "Target.targetCrashed")
+
+
+class NoAnswer(RuntimeError):
+    """The browser gave no answer: it ended, the page's process ended, or nothing came for a long time."""
 
 
 class Chromium:
@@ -40,7 +53,7 @@ class Chromium:
         self._session: Optional[str] = None
         target = self.send("Target.createTarget", url="about:blank")["targetId"]
         self._session = self.send("Target.attachToTarget", targetId=target, flatten=True)["sessionId"]
-        for domain in ("Page", "Runtime", "Network", "Log", "Accessibility"):
+        for domain in ("Inspector", "Page", "Runtime", "Network", "Log", "Accessibility"):
             self.send(f"{domain}.enable")
 
     def __enter__(self) -> Chromium:
@@ -51,7 +64,7 @@ class Chromium:
     ) -> None:
         os.close(self._write)
         try:
-            self._process.wait(_PATIENCE)
+            self._process.wait(10.0 if kind is NoAnswer else _PATIENCE)
         except subprocess.TimeoutExpired:
             self._process.kill()
             self._process.wait()
@@ -64,7 +77,9 @@ class Chromium:
         message: Dict[str, Any] = {"id": self._last, "method": method, "params": parameters}
         if self._session is not None:
             message["sessionId"] = self._session
-        os.write(self._write, json.dumps(message).encode() + b"\0")
+        left = json.dumps(message).encode() + b"\0"
+        while left:
+            left = left[os.write(self._write, left):]
         while True:
             said = self._next()
             if said.get("id") == self._last:
@@ -106,9 +121,14 @@ class Chromium:
         end = time.monotonic() + _PATIENCE
         while b"\0" not in self._buffer:
             ready, _, _ = select.select([self._read], [], [], max(0.0, end - time.monotonic()))
-            piece = os.read(self._read, 1 << 16) if ready else b""
+            if not ready:
+                raise NoAnswer(f"the browser says nothing for {_PATIENCE:.0f} s")
+            piece = os.read(self._read, 1 << 16)
             if not piece:
-                raise RuntimeError("the browser doesn't answer")
+                raise NoAnswer("the browser has ended")
             self._buffer += piece
         message, _, self._buffer = self._buffer.partition(b"\0")
-        return dict(json.loads(message))
+        said = dict(json.loads(message))
+        if said.get("method") in _CRASHES:
+            raise NoAnswer("the page's process has ended")
+        return said

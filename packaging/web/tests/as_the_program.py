@@ -3,7 +3,8 @@
     packaging/web/tests/as_the_program.py WORKBENCH.html PROGRAM [--seconds N] [--seed N]
 
 PROGRAM is a built program, or libvirage.so. Tried are all commands on all examples, the rows of model/rows.py, hostile
-files of bench/, and cases that model/cases.py makes for so many seconds. The page answers by its own worker.
+files of bench/, and cases that model/cases.py makes for so many seconds. The page answers by its own worker. Where a
+browser gives no answer, the same cases are handed to a new one, and the last line says how often that was.
 """
 import argparse
 import itertools
@@ -17,7 +18,7 @@ from collections import Counter
 from concurrent.futures import ThreadPoolExecutor
 from pathlib import Path
 
-from opened import TOP, Workbench
+from opened import TOP, NoAnswer, Workbench
 
 sys.path.insert(0, str(TOP / 'model'))
 
@@ -27,6 +28,9 @@ from virage.library import Library  # noqa: E402
 
 # so many cases are handed to the page at once, and hostile ones by themselves
 AT_ONCE = 40
+
+# so often the same cases are handed to a new browser
+TRIES = 4
 
 # how much memory the program may take here: as the page, it answers 7 where it wants more
 MEMORY = 4 << 30
@@ -132,6 +136,41 @@ def generated_cases(seed, seconds):
         yield made_case(seed, number)
 
 
+def limit_memory(most):
+    """How much memory this process and the programs that it starts may take."""
+    _, hardest = resource.getrlimit(resource.RLIMIT_AS)
+    resource.setrlimit(resource.RLIMIT_AS, (hardest if most is None else most, hardest))
+
+
+class Pages:
+    """A workbench, opened anew in another browser where one gives no answer."""
+
+    def __init__(self, path):
+        self.path, self.page, self.lost = path, None, []
+
+    def __enter__(self):
+        # (a browser reserves more than it takes)
+        limit_memory(None)
+        self.page = Workbench(self.path).__enter__()
+        limit_memory(MEMORY)
+        return self
+
+    def __exit__(self, kind, stop, at):
+        self.page.__exit__(kind, stop, at)
+
+    def calls(self, cases):
+        for tried in range(1, TRIES + 1):
+            try:
+                return self.page.calls(cases)
+            except NoAnswer as stop:
+                print(f'A new browser, since {stop}: {[words for words, _ in cases][:3]} ..', flush=True)
+                self.lost.append(stop)
+                if tried == TRIES:
+                    raise
+                self.__exit__(NoAnswer, stop, None)
+                self.__enter__()
+
+
 class Comparison:
     def __init__(self, page, program):
         self.page, self.program = page, program
@@ -172,9 +211,7 @@ def main():
     parser.add_argument('--seed', type=int, default=34)
     options = parser.parse_args()
     program = Library(options.program) if '.so' in options.program else Program(options.program)
-    with Workbench(options.page) as page:
-        # (not before the browser is there, which reserves more than it takes)
-        resource.setrlimit(resource.RLIMIT_AS, (MEMORY, MEMORY))
+    with Pages(options.page) as page:
         tried = Comparison(page, program)
         tried.run('examples', example_cases())
         tried.run("the model's rows", row_cases())
@@ -182,7 +219,7 @@ def main():
         tried.run('generated cases', generated_cases(options.seed, options.seconds))
     told = ', '.join(f'{count} of status {status}' for status, count in sorted(tried.statuses.items()))
     print(f"{tried.same} answers are the same as the program's, {tried.other} are not, and {tried.wanting} want more "
-          f'memory than the page has ({told})')
+          f'memory than the page has ({told}; {len(page.lost)} browsers gave no answer)')
     return 1 if tried.other else 0
 
 

@@ -9,7 +9,7 @@ from pathlib import Path
 TOP = Path(__file__).resolve().parents[3]
 sys.path.insert(0, str(TOP / 'python'))
 
-from tests.chromium import BROWSER, Chromium  # noqa: E402,F401
+from tests.chromium import BROWSER, Chromium, NoAnswer  # noqa: E402,F401
 
 # how long something is waited for, in seconds
 PATIENCE = 30
