@@ -173,7 +173,7 @@ class Workbench {
     const open = [...at('findings').querySelectorAll('tr')].filter((row) => row.querySelector('details[open]'))
       .map((row) => row.dataset.property);
     fill(at('term'), drawTerm(report.term));
-    fill(at('findings'), drawProperties(report.findings, (property) => this.searching.drawn(rule, property)));
+    fill(at('findings'), drawProperties(report, (property) => this.searching.drawn(rule, property)));
     for (const row of at('findings').querySelectorAll('tr')) {
       if (open.includes(row.dataset.property) && row.querySelector('details')) row.querySelector('details').open = true;
     }

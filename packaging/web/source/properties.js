@@ -86,16 +86,28 @@ function drawReasons({ reasons }) {
   return element('details', {}, element('summary', {}, summary), element('ul', {}, reasons.map(drawReason)));
 }
 
-function drawFinding(found, look) {
+// What the map of the cookbook says of a property that isn't derived, where the rule is one of the cookbook's.
+function drawKnown(rule, property) {
+  const known = KNOWN.cookbook.find((one) => one.term === rule);
+  const how = known && Object.keys(known.closed).find((it) => known.closed[it].split(' ').includes(property));
+  if (!how) return [];
+  const file = `examples/counterexamples/${known.name}.${property.replace(/[()]/g, '')}.soc`;
+  const by = how === 'case' ? ['a case shows it, ', element('code', {}, file)]
+    : ['by a law on ', element('code', {}, known.name), ', in docs/KNOWN.md'];
+  return element('div', { class: 'known' }, element('strong', {}, how === 'case' ? 'false' : how), ': ', by);
+}
+
+function drawFinding(found, look, rule) {
   const sign = element('span', { 'aria-hidden': 'true', class: 'sign' }, found.holds ? '✓' : '–');
-  const why = found.holds ? [drawDerivation(found)] : [drawReasons(found), ...look(found.property)];
+  const why = found.holds ? [drawDerivation(found)]
+    : [drawKnown(rule, found.property), drawReasons(found), ...look(found.property)];
   return element('tr', { role: 'row', class: found.holds ? 'holds' : 'underived', 'data-property': found.property },
     element('th', { scope: 'row', role: 'rowheader' }, termLabel(found.property), ' ', propertyLink(found.property)),
     element('td', { role: 'cell' }, sign, found.holds ? ' holds' : ' not derived'),
     element('td', { role: 'cell' }, why));
 }
 
-function drawProperties(findings, look) {
+function drawProperties({ rule, findings }, look) {
   const derived = findings.filter((found) => found.holds).length;
   const heading = (word) => element('th', { scope: 'col', role: 'columnheader' }, word);
   const head = ['Property', 'Finding', 'Why'].map(heading);
@@ -105,7 +117,7 @@ function drawProperties(findings, look) {
       + 'is not derived these rules give no derivation, which doesn\'t mean that it is false.'),
     element('table', { role: 'table', 'aria-labelledby': 'properties', class: 'findings' },
       element('thead', { role: 'rowgroup' }, element('tr', { role: 'row' }, head)),
-      element('tbody', { role: 'rowgroup' }, findings.map((found) => drawFinding(found, look))))];
+      element('tbody', { role: 'rowgroup' }, findings.map((found) => drawFinding(found, look, rule))))];
 }
 
 // What the words mean, drawn once.

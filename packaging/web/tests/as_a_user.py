@@ -105,6 +105,24 @@ class Uses(unittest.TestCase):
         self.assertIn('Baldwin, 1926', self.page.text('about'))
         self.assertIn('a pool', ' '.join(self.elected()))
 
+    def test_what_is_known_of_a_rule_of_the_cookbook_stands_beside_what_is_not_derived(self):
+        named = 0
+        for path in sorted((TOP / 'examples/rules').glob('*.vir')):
+            self.page.choose('cookbook', self.index_of(path.stem))
+            self.page.settle()
+            underived = self.page.value('document.querySelectorAll("#findings tr.underived").length')
+            said = self.page.all_said('#findings tr.underived .known')
+            self.assertEqual(len(said), underived, path.name)
+            for line in said:
+                self.assertRegex(line, '^(false: a case shows it, |true: by a law|false: by a law)')
+                if ' case ' in line:
+                    self.assertTrue((TOP / line.split(', ')[1]).is_file(), line)
+                    named += 1
+        self.assertEqual(named, 184)
+        self.page.type_into('#rule', 'r = max(borda);')
+        self.page.settle()
+        self.assertEqual(self.page.all_said('#findings .known'), [])
+
     def test_ballots_are_put_in_order_by_dragging(self):
         self.page.choose('profiles', '1')
         self.page.settle()
