@@ -1,15 +1,28 @@
 #!/usr/bin/env python3
-"""Looks in the pages for what isn't so: a link or a path of a file that isn't there, and a number of crates, commands,
-rules, properties or equations that is another one here. It prints a line for each, and one at the end."""
+"""Looks in the pages for what isn't so: a link or a path of a file that isn't there; a name of a clause, a law, a type
+or a definition that no crate has; and a number of crates, commands, rules, properties, equations or counters that is
+another one here. The pages are all of the repository, and the man page. It prints a line for each, and one at the end.
+"""
 import re
+import subprocess
 import sys
 from pathlib import Path
 
 TOP = Path(__file__).resolve().parent.parent
-PAGES = [TOP / "README.md", TOP / "examples" / "README.md", TOP / "model" / "README.md", *sorted(TOP.glob("docs/*.md"))]
+PAGES = [path for path in sorted(TOP.rglob("*.md")) if "out" not in path.parts and not path.parts[-2].startswith(".")]
+# those that name what stands in crates
+OF_CRATES = {TOP / "docs" / f"{name}.md" for name in "ARCHITECTURE DECISIONS KNOWN PROMISES TRUST".split()}
 FOLDERS = "bench checks crates docs editors examples help model packaging pages python tools c".split()
 LINK = re.compile(r"\]\(([^)#\s]*)(#[^)\s]*)?\)")
 PATH = re.compile(rf"`((?:{'|'.join(FOLDERS)})/[\w./*{{}},-]+)`")
+IN_CRATE = re.compile(r"`(vir\w*/(?:src|specs|proofs|must-fail)/[\w./+-]+)`")
+NAME = re.compile(r"`((?:\w+::)?(?:[a-z0-9]+_\w+|[A-Z][a-z0-9]+\w*))`")
+# names that stand in these pages and are of no crate of this repository
+ELSEWHERE = {"top_call_always_wants_memory"}
+# numbers of other things stand there
+OF_MEASUREMENTS = {TOP / "bench" / "RESULTS.md", TOP / "CHANGELOG.md"}
+# what is always counted whole; a small number of others, such as rules, is one of some of them
+EXACT = ("counters", "crates of the kit")
 WORDS = "one two three four five six seven eight nine ten eleven twelve thirteen fourteen fifteen sixteen".split()
 
 
@@ -24,10 +37,33 @@ def counts():
     return {
         "crates": {crates, crates - tests, tests},
         "commands": {count(r"^command:", "help/commands")},
-        "properties": {count(r"^[^#\s]", "help/properties")},
+        # those that there are, and how many may be wanted at a time
+        "properties": {count(r"^[^#\s]", "help/properties"), 32},
         "rules": {count(r"^\| \d+ \| <a id=", "docs/RULES.md")},
+        # those of the full bench, and the types of them
+        "counters": {count(r"bench\.push\(", "crates/vir_bench/src/full_bench.rt"),
+                     len([*TOP.glob("crates/vir_counter/src/*_counter.rt")])},
+        "crates of the kit": {len(kit_crates())},
         "equations": {count(r"^\| \d+ \|", "docs/EQUATIONS.md") or count(r"^\| `", "docs/EQUATIONS.md")},
     }
+
+
+def kit_crates():
+    """The crates that ours stand on and that the kit has."""
+    lines = [line.split(":") for line in (TOP / "crates.txt").read_text(encoding="utf-8").splitlines() if ":" in line]
+    ours = {left.split()[0] for left, *_ in lines if left.split()}
+    return {name for left, right in lines if not left.startswith("#") for name in right.split()} - ours
+
+
+def names_in_crates():
+    """All words of the crates, and the names of their wrong bodies."""
+    words = {path.stem for path in TOP.glob("crates/*/must-fail/*.edit")} | {path.name for path in TOP.glob("crates/*")}
+    for folder in ("src", "specs", "proofs"):
+        for path in TOP.glob(f"crates/*/{folder}/**/*"):
+            if path.suffix in (".rt", ".antt"):
+                words.add(path.stem)
+                words |= set(re.findall(r"\w+", path.read_text(encoding="utf-8")))
+    return words
 
 
 def anchors(page):
@@ -56,25 +92,48 @@ def wrong_paths(text):
             yield f"names {path}, which isn't there"
 
 
+    for path in IN_CRATE.findall(text):
+        if not (TOP / "crates" / path).exists():
+            yield f"names {path}, which isn't there"
+
+
+def wrong_names(text, known):
+    for name in sorted(set(NAME.findall(text))):
+        if not set(name.split("::")) <= known:
+            yield f"names {name}, which no crate has"
+
+
+def man_page():
+    """The man page as text, with its marks of paths as in the pages."""
+    told = subprocess.run([TOP / "help" / "page", "man"], capture_output=True, text=True, check=True).stdout
+    return re.sub(r"^\.Pa (\S+).*$", r"`\1`", told, flags=re.M)
+
+
 def wrong_numbers(text, known):
     for what, right in known.items():
         for number, exact in re.findall(rf"(?<![,\d])\b((\d+)|{'|'.join(WORDS)}) {what}\b", text, re.I):
             value = int(exact) if exact else WORDS.index(number.lower()) + 1
-            # (a number far from it counts something else, such as the rules that one derivation uses)
-            if value not in right and value > 10 and min(abs(value - it) for it in right) < 20:
+            # (a number far from it counts something else)
+            is_small = value <= 10 and what not in EXACT
+            if value not in right and not is_small and min(abs(value - it) for it in right) < 20:
                 yield f"says '{number} {what}', and there are {' or '.join(map(str, sorted(right)))}"
 
 
 def main():
-    known = counts()
+    known, names = counts(), names_in_crates()
     faults = 0
+    for said in [*wrong_paths(man_page()), *wrong_numbers(man_page(), known)]:
+        faults += 1
+        print(f"pages: the man page {said}")
     for page in PAGES:
         text = page.read_text(encoding="utf-8")
         prose = re.sub(r"^    .*$", "", text, flags=re.M)
-        for said in [*wrong_links(page, prose), *wrong_paths(prose), *wrong_numbers(prose, known)]:
+        of_crates = wrong_names(prose, names | ELSEWHERE) if page in OF_CRATES else []
+        numbers = [] if page in OF_MEASUREMENTS else wrong_numbers(prose, known)
+        for said in [*wrong_links(page, prose), *wrong_paths(prose), *numbers, *of_crates]:
             faults += 1
             print(f"pages: {page.relative_to(TOP)} {said}")
-    print(f"pages: {len(PAGES)} pages, {faults} faults")
+    print(f"pages: {len(PAGES)} pages and the man page, {faults} faults")
     return 1 if faults else 0
 
 
