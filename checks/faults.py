@@ -4,10 +4,10 @@
     checks/faults.py [--quick] [--jobs N] [PROGRAM]
     checks/faults.py --library [LIBRARY]
 
-PROGRAM is the proved build where none is named. checks/faults.c is compiled and loaded into it. It makes the Nth call of
-malloc, of open, of read or of write fail, where malloc stands for realloc and the like too: for N from 1 until the
-program makes no such call any more; that call alone, or each from it on; with an error, with an interruption, or by
-taking one byte or none. What has to come is the right answer, or the status and the line of that fault: 7 of memory, 5
+PROGRAM is the proved build where none is named. checks/faults.c is compiled and loaded into it. It makes call N of
+malloc, of open, of read or of write fail, where malloc stands for realloc and the like too: for N from 1 until no such
+call is made any more; that call alone, or each from it on; with an error, with an interruption, or by taking one byte
+or none. What has to come is the right answer, or the status and the line of that fault: 7 of memory, 5
 of a file, 6 of standard output. Then standard output holds nothing, or with 6 a front of the right text. Where a call
 takes one byte, the right answer has to come. An interruption of a read or a write is a fault, since none comes without
 a handler of signals. With --quick there are fewer commands and kinds.
@@ -204,8 +204,8 @@ def try_library(library, folder, room):
     """How many calls of the library had an answer that isn't due."""
     tests, tester = TOP / 'c/tests', str(room / 'faults-library')
     sources = [HERE / 'faults-library.c', HERE / 'faults.c', tests / 'caller.c']
-    subprocess.run(['cc', '-std=gnu99', '-O2', '-Wall', '-Wextra', '-Werror', '-fno-builtin', f'-I{TOP}/c', f'-I{tests}',
-                    '-o', tester, *map(str, sources), library], check=True)
+    subprocess.run(['cc', '-std=gnu99', '-O2', '-Wall', '-Wextra', '-Werror', '-fno-builtin', f'-I{TOP}/c',
+                    f'-I{tests}', '-o', tester, *map(str, sources), library], check=True)
     calls, faults, made = CALLS.replace('\n\n', '\n').splitlines(), 0, 0
     for line in calls:
         words = line.split(' ')
