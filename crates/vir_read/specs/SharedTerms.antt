@@ -1,6 +1,5 @@
 -- A term of which parts are shared, as a tree.
 -- (The program's promises don't stand on this file.)
-use Rattle.std.specs.Prelude.{Bool, true, false}
 use Rattle.vir_term.specs.Tree.{Tree, leaf, rev, seq, par, loop, exactly, at_most, tree as tree_of_term}
 use Rattle.vir_read.specs.declared.shared_term.SharedTerm.{SharedTerm}
 use Rattle.vir_read.specs.declared.shared_term.SharedTerm.TheVariants.{Whole, Leaf, Rev', Seq', Par', Loop', Until'}
@@ -14,8 +13,3 @@ tree (Seq' place first place' second) = seq (tree first) (tree second)
 tree (Par' place first place' second) = par (tree first) (tree second)
 tree (Loop' k place body) = loop (exactly k) (tree body)
 tree (Until' k place body) = loop (at_most k) (tree body)
-
--- whether it shares nothing
-abbrev pub is_whole : SharedTerm → Bool
-is_whole (Whole term) = true
-is_whole _ = false

@@ -44,11 +44,15 @@ impl RawList {
         }
     }
 
-    // Appends a tree.
+    // Appends a tree. Up to sixteen trees a list has room for just as many as it has: most lists of a long text are
+    // short, and a text of many has no room to spare.
     pub(crate) fn push(&mut self, raw: Raw) -> Result<(), AllocError>
         ensures pushed { OnOk result (listed self.new ≡ listed self.old ++ raw_tree raw ∷ []) }
         ensures unchanged { OnErr result (listed self.new ≡ listed self.old) }
     {
+        if self.trees.len() < 16 {
+            self.trees.reserve_exact(1)?;
+        }
         self.trees.push(raw)?;
         Ok(())
     }
