@@ -1,6 +1,6 @@
 -- Whether some element passes a test, and where the first one does.
 use Rattle.std.proofs.Common.{◌≡◌, ℕ, zero, suc, ◌+◌, ◌<◌, Bool, true, false, not, ◌||◌, cond, List, [], ◌∷◌, length}
-use Rattle.std.proofs.Common.{take, drop, refl, arith}
+use Rattle.std.proofs.Common.{take, drop, get_or, refl, arith}
 use Rattle.std.specs.Prelude.{All}
 use Rattle.std.proofs.lemmas.List.Elements.{All-nil, All-cons}
 use Rattle.std.specs.List.{list_any, position_or_len, before_first}
@@ -37,6 +37,13 @@ module _ {X : Type 0} (p : X → Bool) where
         | true ↦ λ e. absurd (omega arith)
         | false ↦ λ e. list_any-none xs (omega arith)
       ] h
+
+  -- none passes where each fails
+  pub list_any-fails : (xs : List X) (d : X) → ((k : ℕ) → k < length xs → p (get_or xs k d) ≡ false)
+      → list_any p xs ≡ false
+  list_any-fails [] d h = refl
+  list_any-fails (x ∷ xs) d h =
+      rw (h 0 (omega arith), list_any-fails xs d (λ k l. h (suc k) (omega arith))) refl
 
   pub All-none : (xs : List X) → list_any p xs ≡ false → All (λ x. p x ≡ false) xs
   All-none [] h = All-nil (λ x. p x ≡ false)

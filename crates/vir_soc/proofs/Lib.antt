@@ -5,6 +5,7 @@ pub mod SplitLemmas
 pub mod OrderLemmas
 pub mod LineLemmas
 pub mod CutLemmas
+pub mod LineFeedLemmas
 pub mod FeedLemmas
 pub mod StandLemmas
 pub mod ChainLemmas
@@ -17,6 +18,7 @@ pub mod SettledLemmas
 pub mod WriteLemmas
 pub mod DigitLemmas
 pub mod CleanLemmas
+pub mod BegunLemmas
 pub mod WrittenVotesLemmas
 pub mod UsualLemmas
 pub mod WrittenMetadataLemmas

@@ -1,10 +1,12 @@
 -- Bytes that are cut into lines.
 use Rattle.std.proofs.Common.{◌≡◌, ℕ, suc, ◌+◌, ◌<◌, ◌≤◌, true, false, cond, List, [], ◌∷◌, ◌++◌, length, get_or, map}
 use Rattle.std.proofs.Common.{nat_eq, Result, Ok, Err, ap, sym, ◌∙◌, refl, arith, append_assoc, append-nil, add-zero}
-use Rattle.std.specs.List.{position_or_len, before_first, after_first}
+use Rattle.std.specs.List.{position_or_len, before_first, after_first, list_any}
 use Rattle.std.proofs.lemmas.Bool.Decides.{nat_tests}
 use Rattle.std.proofs.lemmas.List.{get_or-take, length-take-le, length-append}
 use Rattle.std.proofs.lemmas.List.Sums.{fails_before_first, passes_at_first, split_at_first}
+use Rattle.vir_soc.specs.declared.fault.SocError.{SocError}
+use Rattle.vir_soc.specs.declared.fault.SocError.TheVariants as errors
 use Rattle.vir_soc.specs.declared.fault.SocFault.{SocFault}
 use Rattle.vir_profile.specs.SocFiles.{is_line_feed}
 use Rattle.vir_soc.specs.Checks.{◌>>=◌, at_line}
@@ -12,7 +14,10 @@ use Rattle.vir_soc.specs.Content.{Content}
 use Rattle.vir_soc.specs.LineKinds.{LineKind, kinds_of, text_kind}
 use Rattle.vir_soc.specs.Lines.{trim, without_mark}
 use Rattle.vir_soc.specs.Soc.{after_line, after_lines}
+use Rattle.vir_soc.specs.Reader.Answers.{Fails, fault_in}
 use Rattle.vir_soc.specs.Reader.Pieces.{after_text, after_texts, ended, kinds_from, unended, Progress, reads, end_line}
+use Rattle.vir_soc.specs.Reader.UsualLines.{HasLineFeed}
+use Rattle.vir_soc.proofs.AnyLemmas.{position-inside, position-none}
 
 -- cut in two
 pub ended_append : (begun xs ys : List ℕ) → ended begun (xs ++ ys) ≡ ended begun xs ++ ended (unended begun xs) ys
@@ -162,6 +167,37 @@ reads_end p rest h = rw (ended_first rest h p.begun, unended_first rest h p.begu
     (then_lines (at_line p.line (after_text p.content p.line (p.begun ++ before_first is_line_feed rest))) p.line
     (after_first is_line_feed rest))
 
+abbrev line_in : Result Progress SocFault → ℕ
+line_in (Ok q) = q.line
+line_in (Err f) = 0
+
+abbrev begun_in : Result Progress SocFault → List ℕ
+begun_in (Ok q) = q.begun
+begun_in (Err f) = []
+
+-- the line behind one that ends
+module _ (p next : Progress) (end : List ℕ) where
+  by_content : (r : Result Content SocFault) → (r >>= put (p.line + 1) []) ≡ Ok next → (next.line ≡ p.line + 1)
+      × (next.begun ≡ [])
+  by_content (Ok content) is = (sym (ap line_in is), sym (ap begun_in is))
+  by_content (Err f) is = absurd cc
+
+  pub end_line-next : end_line p end ≡ Ok next → (next.line ≡ p.line + 1) × (next.begun ≡ [])
+  end_line-next is = by_content (at_line p.line (after_text p.content p.line (p.begun ++ end))) is
+
+-- a line that is taken, and the bytes behind it
+pub reads_on : (p q : Progress) (bytes after : List ℕ) → HasLineFeed bytes → after ≡ after_first is_line_feed bytes
+    → end_line p (before_first is_line_feed bytes) ≡ Ok q → reads p bytes ≡ reads q after
+reads_on p q bytes after h e is = rw e (reads_end p bytes (position-inside is_line_feed bytes h)
+    ∙ ap (λ r. r >>= λ q. reads q (after_first is_line_feed bytes)) is)
+
+-- a line at fault
+pub reads_fails : (p : Progress) (bytes : List ℕ) (e : SocError) → HasLineFeed bytes
+    → Fails (fault_in e) (end_line p (before_first is_line_feed bytes)) → Fails (fault_in e) (reads p bytes)
+reads_fails p bytes (errors.Fault f) h is = reads_end p bytes (position-inside is_line_feed bytes h)
+    ∙ ap (λ r. r >>= λ q. reads q (after_first is_line_feed bytes)) is
+reads_fails p bytes errors.Memory h is = tt
+
 -- bytes that end no line
 pub reads_none : (p : Progress) (rest : List ℕ) → position_or_len is_line_feed rest ≡ length rest → reads p rest
     ≡ Ok (record { content = p.content; line = p.line; begun = p.begun ++ rest })
@@ -191,3 +227,40 @@ reads_append p xs ys =
 
 pub reads_nothing : (p : Progress) → reads p [] ≡ Ok p
 reads_nothing p = reads_none p [] refl ∙ ap (λ b. put p.line b p.content) (append-nil p.begun)
+
+-- no more lines end than there are bytes
+pub length-ended : (begun bytes : List ℕ) → length (ended begun bytes) ≤ length bytes
+unfolding ended
+length-ended begun [] = omega arith
+length-ended begun (c ∷ cs) =
+    elim (is_line_feed c) as (λ b. length (cond b (begun ∷ ended [] cs) (ended (begun ++ c ∷ []) cs)) ≤ suc (length cs)) [
+      | true ↦ let l = length-ended [] cs in omega arith
+      | false ↦ let l = length-ended (begun ++ c ∷ []) cs in omega arith
+    ]
+
+-- the number of the line behind bytes that are read
+module _ (p next : Progress) (bytes : List ℕ) where
+  by_lines : (r : Result Content SocFault) → (r >>= put (p.line + length (ended p.begun bytes)) (unended p.begun bytes))
+      ≡ Ok next → next.line ≤ p.line + length bytes
+  by_lines (Ok content) is =
+      let l = length-ended p.begun bytes in
+      let n = ap line_in is in
+      omega arith
+  by_lines (Err f) is = absurd cc
+
+  pub reads-line : reads p bytes ≡ Ok next → next.line ≤ p.line + length bytes
+  reads-line is = by_lines (after_texts p.content p.line (ended p.begun bytes)) is
+
+-- bytes that end no line, behind others
+pub reads_open : (p q : Progress) (bytes front back : List ℕ) → bytes ≡ front ++ back → reads p front ≡ Ok q
+    → list_any is_line_feed back ≡ false
+    → reads p bytes ≡ Ok (record { content = q.content; line = q.line; begun = q.begun ++ back })
+reads_open p q bytes front back e is none = ap (reads p) e ∙ reads_append p front back ∙ ap (λ r. r >>= λ q. reads q back) is
+    ∙ reads_none q back (position-none is_line_feed back none)
+
+-- a fault of the bytes before others
+pub reads_append_fails : (p : Progress) (bytes front back : List ℕ) (e : SocError) → bytes ≡ front ++ back
+    → Fails (fault_in e) (reads p front) → Fails (fault_in e) (reads p bytes)
+reads_append_fails p bytes front back (errors.Fault f) e is = ap (reads p) e ∙ reads_append p front back
+    ∙ ap (λ r. r >>= λ q. reads q back) is
+reads_append_fails p bytes front back errors.Memory e is = tt

@@ -2,12 +2,12 @@
 use Rattle.std.proofs.Common.{◌≡◌, ℕ, suc, Bool, true, false, cond, sym, drop, subst, ◌+◌, ◌*◌, ◌-◌, ◌<◌, ◌≤◌, ◌^◌, ◌/◌}
 use Rattle.std.proofs.Common.{◌%◌, List, [], ◌∷◌, ◌++◌, length, decimal, Some, None, Ok, nat_eq, nat_le, nat_lt, ap}
 use Rattle.std.proofs.Common.{◌∙◌, refl}
-use Rattle.std.proofs.Common.{arith, append-nil, append_assoc, ◌≢◌, ◌||◌, get_or, Option, replicate}
+use Rattle.std.proofs.Common.{arith, append_assoc, ◌≢◌, ◌||◌, get_or, Option, replicate}
 use Rattle.std.proofs.Math.ListN.{set as put}
 use Rattle.std.proofs.lemmas.List.{get_or-replicate, get_or-set_other, get_or-set_same, get_or_append_left}
 use Rattle.std.proofs.lemmas.List.{length-append, length-replicate}
 use Rattle.std.specs.Prelude.{All}
-use Rattle.std.specs.List.{list_any, position_or_len, prefix_len, slice_split}
+use Rattle.std.specs.List.{after_first, before_first, list_any, prefix_len, slice_split}
 use Rattle.std.proofs.lemmas.Bool.Decides.{nat_tests}
 use Rattle.std.proofs.lemmas.Fmt.{decimal_digit, decimal_step}
 use Rattle.std.proofs.lemmas.List.Elements.{All-cons}
@@ -24,16 +24,17 @@ use Rattle.vir_soc.specs.Content.{Content}
 use Rattle.vir_soc.specs.Lines.{trim, without_mark}
 use Rattle.vir_soc.specs.LineKinds.{ballots, is_colon, is_hash, text_kind}
 use Rattle.vir_soc.specs.Numbers.{number}
-use Rattle.vir_soc.specs.Reader.Pieces.{after_text, kind_at, reads}
+use Rattle.vir_soc.specs.Reader.Pieces.{after_text, end_line, kind_at}
 use Rattle.vir_soc.specs.Reader.UsualLines.{BeginsWithEnd, BeginsWithLine, BeginsWithOrder, BeginsWithVotes}
+use Rattle.vir_soc.specs.Reader.UsualLines.{HasLineFeed}
 use Rattle.vir_soc.specs.Votes.{alternative, is_brace, is_comma, order_after, with_order, with_votes}
 use Rattle.vir_soc.proofs.CleanLemmas.{IsClean, IsClean-append, IsClean-decimal, after_at, after_colon, before_at}
-use Rattle.vir_soc.proofs.CleanLemmas.{before_colon, colon_inside, first_at, last-append, trim-clean, trim-returned}
+use Rattle.vir_soc.proofs.CleanLemmas.{before_colon, colon_inside, last-append, trim-clean, trim-returned}
 use Rattle.vir_soc.proofs.CleanLemmas.{trim-space, without_mark-none}
 use Rattle.vir_soc.proofs.DigitLemmas.{brace_fails, colon_fails, digit_fails, hash_fails, line_feed_fails}
 use Rattle.vir_soc.proofs.DigitLemmas.{list_any-decimal}
 use Rattle.vir_soc.proofs.DigitLemmas.{mark_fails, number-decimal}
-use Rattle.vir_soc.proofs.LineLemmas.{reads_end}
+use Rattle.vir_soc.proofs.LineFeedLemmas.{feed_behind_text}
 use Rattle.vir_soc.proofs.OrderLemmas.{ranged, sound_push}
 use Rattle.vir_soc.proofs.WrittenVotesLemmas.{alternative-decimal, no_comma}
 
@@ -206,6 +207,24 @@ module _ (m x : ℕ) (bytes order rest after : List ℕ) (r : Reads m bytes orde
     judged = order_fault-complete m (order ++ x ∷ []) (sound_push m [] order x some known r.sound once) all;
   }
 
+-- ---- line feeds behind what was read
+
+pub Reads-feed : (m : ℕ) (bytes order rest : List ℕ) → Reads m bytes order rest → HasLineFeed bytes → HasLineFeed rest
+Reads-feed m bytes order rest r h = feed_behind_text bytes r.text rest r.parts r.no_feed h
+
+pub BeginsWithOrder-feed : (m : ℕ) (bytes order rest : List ℕ) → BeginsWithOrder m bytes order rest → HasLineFeed bytes
+    → HasLineFeed rest
+BeginsWithOrder-feed m bytes order rest o h = feed_behind_text bytes o.text rest o.parts o.one_line h
+
+pub BeginsWithVotes-feed : (m : ℕ) (bytes : List ℕ) (weight : ℕ) (order rest : List ℕ) → BeginsWithVotes m bytes weight
+    order rest → HasLineFeed bytes → HasLineFeed rest
+BeginsWithVotes-feed m bytes weight order rest v h = feed_behind_text bytes v.line rest v.parts v.one_line h
+
+pub decimal-feed : (n : ℕ) (text rest : List ℕ) → n < 2 ^ 64 → text ≡ decimal n ++ rest → HasLineFeed text
+    → HasLineFeed rest
+decimal-feed n text rest small e h = feed_behind_text text (decimal n) rest e
+    (list_any-decimal is_line_feed line_feed_fails n small) h
+
 pub empty_is : (xs : List ℕ) → true ≡ nat_eq (length xs) 0 → xs ≡ []
 empty_is [] h = refl
 empty_is (x ∷ xs) h = let t : nat_eq (length (x ∷ xs)) 0 ≡ false = grind (arith, nat_tests) in absurd cc
@@ -348,14 +367,6 @@ with_order-taken votes entry h =
     let heavy = where_none (nat_lt voters_limit (total_weight votes.lines + entry.weight)) _ room.1 in
     rw (short, full, heavy) refl
 
--- a line that is all of a text
-pub with_votes-taken : (votes : Votes) (entry : Entry) (text rest : List ℕ) → BeginsWithVotes votes.alternatives text
-    entry.weight entry.order rest → rest ≡ [] → add_fault votes entry ≡ None → with_votes votes.alternatives votes.lines
-    text ≡ Ok (votes.lines ++ entry ∷ [])
-with_votes-taken votes entry text rest v e h =
-    ap (with_votes votes.alternatives votes.lines) (v.parts ∙ ap (λ t. v.line ++ t) e ∙ append-nil v.line)
-    ∙ v.says votes.lines ∙ with_order-taken votes entry h
-
 -- a line with an end
 ended_line : (votes : Votes) (entry : Entry) (bytes end rest : List ℕ) → BeginsWithVotes votes.alternatives bytes
     entry.weight entry.order end → (returned : Bool) → end ≡ cond returned (13 ∷ 10 ∷ rest) (10 ∷ rest)
@@ -383,22 +394,21 @@ pub BeginsWithLine-taken : (votes : Votes) (entry : Entry) (bytes end rest : Lis
     → BeginsWithLine votes.alternatives bytes votes.lines (votes.lines ++ entry ∷ []) rest
 BeginsWithLine-taken votes entry bytes end rest v e h = ended_line votes entry bytes end rest v e.returned e.parts h
 
--- further bytes begin with the line, where none has begun
-pub reads_votes : (content : Content) (n m : ℕ) (bytes rest : List ℕ) (after : List Entry) → content.alternatives
-    ≡ Some m → BeginsWithLine m bytes content.votes after rest
-    → reads (record { content = content; line = n; begun = [] }) bytes ≡ reads (record { content = record content { votes = after }; line = n + 1; begun = [] }) rest
-unfolding after_text
-reads_votes content n m bytes rest after known l =
-    let at : position_or_len is_line_feed (l.line ++ 10 ∷ rest) ≡ length l.line =
-    first_at is_line_feed l.line 10 rest l.one_line refl in
-    let inside : position_or_len is_line_feed (l.line ++ 10 ∷ rest) < length (l.line ++ 10 ∷ rest) =
-    omega (arith, length-append l.line (10 ∷ rest)) in
-    ap (reads _) l.parts
-    ∙ reads_end (record { content = content; line = n; begun = [] }) (l.line ++ 10 ∷ rest) inside
-    ∙ rw (
-      before_at is_line_feed l.line 10 rest l.one_line refl,
-      after_at is_line_feed l.line 10 rest l.one_line refl,
-      l.kind n,
-      known,
-      l.says,
-    ) refl
+-- the line that the bytes begin with
+module _ (content : Content) (n m : ℕ) (bytes rest : List ℕ) (after : List Entry) (l : BeginsWithLine m bytes content.votes
+    after rest) where
+  pub before_first-line : before_first is_line_feed bytes ≡ l.line
+  before_first-line = ap (before_first is_line_feed) l.parts
+      ∙ before_at is_line_feed l.line 10 rest l.one_line refl
+
+  pub after_first-line : rest ≡ after_first is_line_feed bytes
+  after_first-line = sym (ap (after_first is_line_feed) l.parts ∙ after_at is_line_feed l.line 10 rest l.one_line refl)
+
+  -- it is taken where no line has begun before
+  pub end_line-votes : content.alternatives ≡ Some m
+      → end_line (record { content = content; line = n; begun = [] }) (before_first is_line_feed bytes)
+      ≡ Ok (record { content = record content { votes = after }; line = n + 1; begun = [] })
+  unfolding after_text
+  end_line-votes known =
+      ap (end_line (record { content = content; line = n; begun = [] })) before_first-line
+      ∙ rw (l.kind n, known, l.says) refl

@@ -1,12 +1,14 @@
 // Bytes: cutting, trimming, and numbers in digits.
-ghost use Rattle.std.specs.Prelude.{◌≡◌, ◌≤◌, ◌<◌, ◌^◌, true, false, length, min, nat_eq, MatchOption};
+ghost use Rattle.std.specs.Prelude.{◌≡◌, ◌≤◌, ◌<◌, ◌^◌, [], true, false, drop, length, min, nat_eq, take, MatchOption};
 ghost use Rattle.std.specs.Option.{option_map};
 ghost use Rattle.std.specs.List.{list_any, position_or_len, before_first, after_first};
-ghost use Rattle.vir_profile.specs.SocFiles.{is_blank};
+ghost use Rattle.vir_profile.specs.SocFiles.{is_blank, is_line_feed};
 ghost use Rattle.vir_soc.specs.Lines.{trim, trim_back, trim_front, without_mark};
 ghost use Rattle.vir_soc.specs.Numbers.{number};
+ghost use Rattle.vir_soc.specs.Reader.Pieces.{unended};
+ghost use Rattle.vir_soc.specs.Reader.UsualLines.{HasLineFeed};
 
-use memchr::memchr;
+use memchr::{memchr, memrchr};
 
 /// Where the byte first stands, or the length.
 fn find(byte: u8, text: &[u8]) -> usize
@@ -33,6 +35,32 @@ pub fn cut(byte: u8, text: &[u8]) -> (&[u8], Option<&[u8]>)
         (before, None)
     } else {
         (before, Some(&text[end + 1..]))
+    }
+}
+
+/// The line with which the bytes begin, and what stands behind its line feed.
+pub fn first_line(bytes: &[u8]) -> (&[u8], &[u8])
+    requires { HasLineFeed bytes.now }
+    ensures line { result.0.now ≡ before_first is_line_feed bytes.now }
+    ensures rest { result.1.now ≡ after_first is_line_feed bytes.now }
+    ensures one_line { list_any is_line_feed result.0.now ≡ false }
+{
+    let (line, after) = cut(b'\n', bytes);
+    match after {
+        Some(rest) => (line, rest),
+        None => unreachable!(),
+    }
+}
+
+/// How many bytes there are up to the last line feed, and with it.
+pub fn ended_len(bytes: &[u8]) -> usize
+    ensures within { result ≤ length bytes.now }
+    ensures ended { unended [] (take result bytes.now) ≡ [] }
+    ensures begun { list_any is_line_feed (drop result bytes.now) ≡ false }
+{
+    match memrchr(b'\n', bytes) {
+        Some(place) => place + 1,
+        None => 0,
     }
 }
 

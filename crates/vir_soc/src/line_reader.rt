@@ -1,13 +1,14 @@
 // Lines, read from pieces that may be cut anywhere.
-ghost use Rattle.std.specs.Prelude.{◌≡◌, ◌+◌, ◌++◌, ◌<◌, ◌≤◌, ◌^◌, [], false, length, nat_eq, Ok, OnOk, IfOk, IfErr};
-ghost use Rattle.std.specs.Prelude.{IfSome, MatchOption};
-ghost use Rattle.std.specs.List.{list_any};
+ghost use Rattle.std.specs.Prelude.{◌≡◌, ◌+◌, ◌++◌, ◌<◌, ◌≤◌, ◌^◌, [], drop, false, length, nat_eq, take, Ok, OnOk};
+ghost use Rattle.std.specs.Prelude.{IfOk, IfErr, MatchOption};
+ghost use Rattle.std.specs.List.{after_first, before_first, list_any};
 ghost use Rattle.vir_profile.specs.SocFiles.{is_line_feed};
 ghost use Rattle.vir_soc.specs.Reader.Answers.{Fails, Gives, fault_in};
 ghost use Rattle.vir_soc.specs.Reader.Pieces as rules;
+ghost use Rattle.vir_soc.specs.Reader.UsualLines.{HasLineFeed};
 ghost use Rattle.vir_soc.specs.Reader.Views.{progress_of};
 
-use crate::bytes::cut;
+use crate::bytes::{ended_len, first_line};
 use crate::draft::Draft;
 use crate::fault::{SocError, SocFault};
 use crate::line::after_line;
@@ -15,6 +16,7 @@ use crate::stop::Stop;
 use crate::votes::take_ended;
 use std::alloc::{AllocError, Global};
 use std::marker::Model;
+use std::mem::replace;
 
 /// The bytes of a line that has begun and that no line feed has ended yet.
 #[derive(Drop)]
@@ -58,10 +60,13 @@ impl Begun {
         self.bytes.extend_from_slice(bytes)
     }
 
-    fn clear(&mut self)
-        ensures { self.new ≡ [] }
+    /// The bytes so far. The line has none from now on.
+    fn take(&mut self, alloc: Global) -> Vec<u8>
+        ensures bytes { result.items ≡ self.old }
+        ensures known { list_any is_line_feed result.items ≡ false }
+        ensures left { self.new ≡ [] }
     {
-        self.bytes.clear();
+        replace(&mut self.bytes, Vec::new(alloc))
     }
 
     /// The bytes so far.
@@ -82,43 +87,34 @@ pub struct LineReader {
     pub begun: Begun,
 }
 
-/// Takes the bytes that end the line that has begun.
-fn end_line(alloc: Global, reader: &mut LineReader, end: &[u8]) -> Result<(), SocError>
+/// Takes the line that these bytes are.
+fn end_line(alloc: Global, reader: &mut LineReader, text: &[u8]) -> Result<(), SocError>
     requires line { reader.old.line + 1 < 2 ^ 64 }
-    requires end { list_any is_line_feed end.now ≡ false }
+    requires begun { reader.old.begun ≡ [] }
+    requires one_line { list_any is_line_feed text.now ≡ false }
     ensures exact { Gives fault_in (λ _. progress_of reader.new) result
-        (rules.end_line (progress_of reader.old) end.now) }
-    ensures line { OnOk result (reader.new.line ≡ reader.old.line + 1) }
+        (rules.end_line (progress_of reader.old) text.now) }
 {
     let line = reader.line;
-    let taken = if reader.begun.is_empty() {
-        after_line(alloc, &mut reader.draft, line, end)
-    } else {
-        reader.begun.extend(end)?;
-        after_line(alloc, &mut reader.draft, line, reader.begun.bytes())
-    };
-    match taken {
+    match after_line(alloc, &mut reader.draft, line, text) {
         Ok(()) => {}
         Err(Stop::Kind(kind)) => return Err(SocError::Fault(SocFault { line, kind })),
         Err(Stop::Memory) => return Err(SocError::Memory),
     }
-    reader.begun.clear();
     reader.line = line + 1;
     Ok(())
 }
 
-/// Takes the line with which the bytes begin, where none has begun before them, it is one of votes in the usual shape
-/// with its end, and there is room for it. Gives what stands behind its end.
+/// Takes the line with which the bytes begin, where it is one of votes in the usual shape, and there is room for it.
+/// Gives what stands behind its line feed.
 fn take_usual<'a>(alloc: Global, reader: &mut LineReader, bytes: &'a [u8]) -> Option<&'a [u8]>
-    requires { reader.old.line + length bytes.now < 2 ^ 64 }
-    ensures exact { MatchOption result (reader.new ≡ reader.old) (λ rest.
-        rules.reads (progress_of reader.old) bytes.now ≡ rules.reads (progress_of reader.new) rest.now) }
-    ensures line { IfSome result (λ rest. reader.new.line ≡ reader.old.line + 1) }
-    ensures shorter { IfSome result (λ rest. length rest.now < length bytes.now) }
+    requires line { reader.old.line + 1 < 2 ^ 64 }
+    requires begun { reader.old.begun ≡ [] }
+    requires feed { HasLineFeed bytes.now }
+    ensures { MatchOption result (reader.new ≡ reader.old) (λ rest. (rest.now ≡ after_first is_line_feed bytes.now)
+        × (rules.end_line (progress_of reader.old) (before_first is_line_feed bytes.now)
+        ≡ Ok (progress_of reader.new))) }
 {
-    if !reader.begun.is_empty() {
-        return None;
-    }
     let Some(profile) = &mut reader.draft.profile else {
         return None;
     };
@@ -127,39 +123,78 @@ fn take_usual<'a>(alloc: Global, reader: &mut LineReader, bytes: &'a [u8]) -> Op
     Some(rest)
 }
 
-/// Takes the line that the bytes end first, and gives what stands behind its line feed. Where they end none, a line
-/// goes on with them.
+/// Takes the line with which the bytes begin, where none has begun before them. Gives what stands behind its line feed.
 fn take_line<'a>(
     alloc: Global,
     reader: &mut LineReader,
     bytes: &'a [u8],
-) -> Result<Option<&'a [u8]>, SocError>
-    requires { reader.old.line + length bytes.now < 2 ^ 64 }
-    ensures exact { IfOk result (λ after. MatchOption after
-        (rules.reads (progress_of reader.old) bytes.now ≡ Ok (progress_of reader.new))
-        (λ rest. rules.reads (progress_of reader.old) bytes.now
-        ≡ rules.reads (progress_of reader.new) rest.now)) }
-    ensures fault { IfErr result (λ e. Fails (fault_in e) (rules.reads (progress_of reader.old) bytes.now)) }
-    ensures line { IfOk result (λ after. MatchOption after
-        (reader.new.line ≤ reader.old.line + length bytes.now)
-        (λ rest. reader.new.line + length rest.now ≤ reader.old.line + length bytes.now)) }
-    ensures shorter { IfOk result (λ after. IfSome after (λ rest. length rest.now < length bytes.now)) }
+) -> Result<&'a [u8], SocError>
+    requires line { reader.old.line + 1 < 2 ^ 64 }
+    requires begun { reader.old.begun ≡ [] }
+    requires feed { HasLineFeed bytes.now }
+    ensures exact { Gives fault_in (λ _. progress_of reader.new) result
+        (rules.end_line (progress_of reader.old) (before_first is_line_feed bytes.now)) }
+    ensures rest { IfOk result (λ rest. rest.now ≡ after_first is_line_feed bytes.now) }
 {
     match take_usual(alloc, reader, bytes) {
-        Some(rest) => return Ok(Some(rest)),
+        Some(rest) => return Ok(rest),
         None => {}
     }
-    let (before, after) = cut(b'\n', bytes);
-    match after {
-        None => {
-            reader.begun.extend(before)?;
-            Ok(None)
-        }
-        Some(rest) => {
-            end_line(alloc, reader, before)?;
-            Ok(Some(rest))
-        }
+    let (line, rest) = first_line(bytes);
+    end_line(alloc, reader, line)?;
+    Ok(rest)
+}
+
+/// Takes lines, each with its line feed, where none has begun before them.
+fn take_lines(alloc: Global, reader: &mut LineReader, bytes: &[u8]) -> Result<(), SocError>
+    requires line { reader.old.line + length bytes.now < 2 ^ 64 }
+    requires begun { reader.old.begun ≡ [] }
+    requires ended { rules.unended [] bytes.now ≡ [] }
+    ensures exact { Gives fault_in (λ _. progress_of reader.new) result
+        (rules.reads (progress_of reader.old) bytes.now) }
+{
+    let mut rest = bytes;
+    while !rest.is_empty() {
+        rest = take_line(alloc, reader, rest)?;
     }
+    Ok(())
+}
+
+/// Takes the line that has begun, which ends at the first line feed of these bytes. Gives what stands behind it.
+fn take_begun<'a>(
+    alloc: Global,
+    reader: &mut LineReader,
+    bytes: &'a [u8],
+) -> Result<&'a [u8], SocError>
+    requires line { reader.old.line + 1 < 2 ^ 64 }
+    requires feed { HasLineFeed bytes.now }
+    ensures exact { Gives fault_in (λ _. progress_of reader.new) result
+        (rules.end_line (progress_of reader.old) (before_first is_line_feed bytes.now)) }
+    ensures rest { IfOk result (λ rest. rest.now ≡ after_first is_line_feed bytes.now) }
+{
+    let (end, rest) = first_line(bytes);
+    let mut line = reader.begun.take(alloc);
+    line.extend_from_slice(end)?;
+    line.extend_from_slice(b"\n")?;
+    take_line(alloc, reader, &line)?;
+    Ok(rest)
+}
+
+/// Takes bytes that are empty or end in a line feed.
+fn take_ended_lines(alloc: Global, reader: &mut LineReader, bytes: &[u8]) -> Result<(), SocError>
+    requires line { reader.old.line + length bytes.now < 2 ^ 64 }
+    requires ended { rules.unended [] bytes.now ≡ [] }
+    ensures exact { Gives fault_in (λ _. progress_of reader.new) result
+        (rules.reads (progress_of reader.old) bytes.now) }
+{
+    if reader.begun.is_empty() {
+        return take_lines(alloc, reader, bytes);
+    }
+    if bytes.is_empty() {
+        return Ok(());
+    }
+    let rest = take_begun(alloc, reader, bytes)?;
+    take_lines(alloc, reader, rest)
 }
 
 /// Takes further bytes.
@@ -169,11 +204,8 @@ pub fn read(alloc: Global, reader: &mut LineReader, piece: &[u8]) -> Result<(), 
         (rules.reads (progress_of reader.old) piece.now) }
     ensures line { OnOk result (reader.new.line ≤ reader.old.line + length piece.now) }
 {
-    let mut rest = piece;
-    loop {
-        match take_line(alloc, reader, rest)? {
-            None => return Ok(()),
-            Some(after) => rest = after,
-        }
-    }
+    let (lines, begun) = piece.split_at(ended_len(piece));
+    take_ended_lines(alloc, reader, lines)?;
+    reader.begun.extend(begun)?;
+    Ok(())
 }

@@ -1,8 +1,10 @@
-// Lines of votes in their usual shape, which are read in one pass over the bytes that they begin.
+// Lines of votes in their usual shape, which are read in one pass over the bytes that they begin. A line feed stands
+// somewhere in these bytes, and each function here stops at it at the latest. So no function asks whether there is a
+// further byte.
 ghost use Rattle.std.specs.Prelude.{◌≡◌, ◌≤◌, ◌<◌, ◌^◌, ◌++◌, ◌∷◌, decimal, drop, length, nat_eq, IfSome};
 ghost use Rattle.std.specs.List.{prefix_len};
 ghost use Rattle.vir_altset.specs.Sets.{limit};
-ghost use Rattle.vir_soc.specs.Reader.UsualLines.{BeginsWithOrder, BeginsWithVotes};
+ghost use Rattle.vir_soc.specs.Reader.UsualLines.{BeginsWithOrder, BeginsWithVotes, HasLineFeed};
 
 use std::alloc::Global;
 use vir_profile::{ALTERNATIVES_IN_PLACE, Ballot, Entry, Few, LIMIT, NARROW};
@@ -22,17 +24,18 @@ struct Leading<'a> {
 
 /// The number that the text begins with, where it has no leading zero and isn't too long.
 fn leading_number(text: &[u8]) -> Option<Leading<'_>>
+    requires { HasLineFeed text.now }
     ensures text { IfSome result (λ r. text.now ≡ decimal r.number ++ r.rest.now) }
     ensures some { IfSome result (λ r. 1 ≤ r.number) }
     ensures small { IfSome result (λ r. r.number < 2 ^ 64) }
     ensures shorter { IfSome result (λ r. length r.rest.now < length text.now) }
 {
-    if text.is_empty() || text[0] < b'1' || text[0] > b'9' {
+    if text[0] < b'1' || text[0] > b'9' {
         return None;
     }
     let mut number = u64::from(text[0] - b'0');
     let mut i = 1;
-    while i < text.len() && text[i] >= b'0' && text[i] <= b'9' && number < DIGIT_BOUND {
+    while text[i] >= b'0' && text[i] <= b'9' && number < DIGIT_BOUND {
         number = number * 10 + u64::from(text[i] - b'0');
         i += 1;
     }
@@ -44,9 +47,10 @@ fn leading_number(text: &[u8]) -> Option<Leading<'_>>
 
 /// What stands behind this byte, where the text begins with it.
 pub fn behind(byte: u8, text: &[u8]) -> Option<&[u8]>
+    requires { HasLineFeed text.now }
     ensures { IfSome result (λ rest. text.now ≡ byte ∷ rest.now) }
 {
-    if text.is_empty() || text[0] != byte {
+    if text[0] != byte {
         return None;
     }
     Some(&text[1..])
@@ -54,13 +58,15 @@ pub fn behind(byte: u8, text: &[u8]) -> Option<&[u8]>
 
 /// The text without the spaces at its front.
 fn unspaced(text: &[u8]) -> &[u8]
-    ensures { result.now ≡ drop (prefix_len (λ c. nat_eq c 32) text.now) text.now }
+    requires { HasLineFeed text.now }
+    ensures digits { result.now ≡ drop (prefix_len (λ c. nat_eq c 32) text.now) text.now }
+    ensures feed { HasLineFeed result.now }
 {
-    if text.is_empty() || text[0] != b' ' {
+    if text[0] != b' ' {
         return text;
     }
     let mut from = 0;
-    while from < text.len() && text[from] == b' ' {
+    while text[from] == b' ' {
         from += 1;
     }
     &text[from..]
@@ -69,7 +75,8 @@ fn unspaced(text: &[u8]) -> &[u8]
 /// The order of all m alternatives, which are few, that the bytes begin with in the usual shape, and what stands
 /// behind it.
 fn few_order<'a>(m: u16, bytes: &'a [u8]) -> Option<(Few, &'a [u8])>
-    requires { m ≤ ALTERNATIVES_IN_PLACE }
+    requires few { m ≤ ALTERNATIVES_IN_PLACE }
+    requires feed { HasLineFeed bytes.now }
     ensures { IfSome result (λ r. BeginsWithOrder m bytes.now r.0 r.1.now) }
 {
     let mut order = Few::none();
@@ -96,7 +103,8 @@ fn few_order<'a>(m: u16, bytes: &'a [u8]) -> Option<(Few, &'a [u8])>
 /// The order of all m alternatives, each of which fits a byte, that the bytes begin with in the usual shape, and
 /// what stands behind it; None also where memory is wanting.
 fn byte_order<'a>(alloc: Global, m: u16, bytes: &'a [u8]) -> Option<(Vec<u8>, &'a [u8])>
-    requires { m ≤ NARROW }
+    requires few { m ≤ NARROW }
+    requires feed { HasLineFeed bytes.now }
     ensures { IfSome result (λ r. BeginsWithOrder m bytes.now r.0.items r.1.now) }
 {
     let mut order: Vec<u8> = Vec::with_capacity(alloc, usize::from(m)).ok()?;
@@ -125,7 +133,8 @@ fn byte_order<'a>(alloc: Global, m: u16, bytes: &'a [u8]) -> Option<(Vec<u8>, &'
 /// The order of all m alternatives that the bytes begin with in the usual shape, and what stands behind it; None
 /// also where memory is wanting.
 fn wide_order<'a>(alloc: Global, m: u16, bytes: &'a [u8]) -> Option<(Vec<u16>, &'a [u8])>
-    requires { m ≤ limit }
+    requires few { m ≤ limit }
+    requires feed { HasLineFeed bytes.now }
     ensures { IfSome result (λ r. BeginsWithOrder m bytes.now r.0.items r.1.now) }
 {
     let mut order: Vec<u16> = Vec::with_capacity(alloc, usize::from(m)).ok()?;
@@ -154,7 +163,8 @@ fn wide_order<'a>(alloc: Global, m: u16, bytes: &'a [u8]) -> Option<(Vec<u16>, &
 /// The order of all m alternatives that the bytes begin with in the usual shape, and what stands behind it; None
 /// also where memory is wanting.
 fn usual_order<'a>(alloc: Global, m: u16, bytes: &'a [u8]) -> Option<(Ballot, &'a [u8])>
-    requires { m ≤ limit }
+    requires few { m ≤ limit }
+    requires feed { HasLineFeed bytes.now }
     ensures { IfSome result (λ r. BeginsWithOrder m bytes.now r.0 r.1.now) }
 {
     if usize::from(m) <= ALTERNATIVES_IN_PLACE {
@@ -176,7 +186,8 @@ fn usual_order<'a>(alloc: Global, m: u16, bytes: &'a [u8]) -> Option<(Ballot, &'
 /// leading zero, and blanks stand behind the colon and the commas alone, where they are spaces. None for any other
 /// bytes, and where memory is wanting.
 pub fn usual_line<'a>(alloc: Global, m: u16, bytes: &'a [u8]) -> Option<(Entry, &'a [u8])>
-    requires { m ≤ limit }
+    requires few { m ≤ limit }
+    requires feed { HasLineFeed bytes.now }
     ensures { IfSome result (λ r. BeginsWithVotes m bytes.now r.0.weight r.0.order r.1.now) }
 {
     let count = leading_number(bytes)?;

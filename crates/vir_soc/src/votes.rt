@@ -1,13 +1,12 @@
 // Lines of votes.
 ghost use Rattle.std.specs.Prelude.{◌≡◌, ◌≤◌, ◌<◌, ℕ, [], List, None, Ok, Err, OnOk, IfOk, IfSome, MatchOption, length};
-ghost use Rattle.std.specs.Bool.{MatchBool};
 ghost use Rattle.std.specs.List.{list_any, slice_split};
 ghost use Rattle.vir_altset.specs.Sets.{limit};
 ghost use Rattle.vir_profile.specs.OrderFaults.{member_fault_after};
 ghost use Rattle.vir_profile.specs.Profiles.{voters_limit};
 ghost use Rattle.vir_soc.specs.Reader.Answers.{Gives, kind_in};
 ghost use Rattle.vir_soc.specs.Reader.Steps.{stop_of};
-ghost use Rattle.vir_soc.specs.Reader.UsualLines.{BeginsWithEnd, BeginsWithLine};
+ghost use Rattle.vir_soc.specs.Reader.UsualLines.{BeginsWithEnd, BeginsWithLine, HasLineFeed};
 ghost use Rattle.vir_soc.specs.Votes.{alternative, is_brace, is_comma, order_after, with_order, with_votes};
 
 use crate::bytes::{cut, number, trim};
@@ -114,21 +113,9 @@ fn add(alloc: Global, profile: &mut Profile, count: u128, order: Vec<u16>) -> Re
     }
 }
 
-/// Takes a line of votes in the usual shape, where it has that shape and there is room for it.
-fn took_usual(alloc: Global, profile: &mut Profile, text: &[u8]) -> bool
-    ensures taken { MatchBool result
-        (with_votes profile.old.alternatives profile.old.lines text.now ≡ Ok profile.new.lines)
-        (profile.new ≡ profile.old) }
-    ensures alternatives { profile.new.alternatives ≡ profile.old.alternatives }
-{
-    match usual_line(alloc, profile.alternatives(), text) {
-        Some((line, rest)) => rest.is_empty() && profile.add_judged(line).is_ok(),
-        None => false,
-    }
-}
-
 /// What stands behind the end of a line, where the bytes begin with one.
 fn behind_end(bytes: &[u8]) -> Option<&[u8]>
+    requires { HasLineFeed bytes.now }
     ensures { IfSome result (λ rest. BeginsWithEnd bytes.now rest.now) }
 {
     match behind(b'\r', bytes) {
@@ -140,6 +127,7 @@ fn behind_end(bytes: &[u8]) -> Option<&[u8]>
 /// Takes the line of votes with which the bytes begin, where it has the usual shape and an end, and there is room
 /// for it. Gives what stands behind its end.
 pub fn take_ended<'a>(alloc: Global, profile: &mut Profile, bytes: &'a [u8]) -> Option<&'a [u8]>
+    requires { HasLineFeed bytes.now }
     ensures taken { MatchOption result (profile.new ≡ profile.old) (λ rest.
         BeginsWithLine profile.old.alternatives bytes.now profile.old.lines profile.new.lines rest.now) }
     ensures alternatives { profile.new.alternatives ≡ profile.old.alternatives }
@@ -152,20 +140,8 @@ pub fn take_ended<'a>(alloc: Global, profile: &mut Profile, bytes: &'a [u8]) -> 
     Some(rest)
 }
 
-/// Takes a line of votes.
-pub fn with_votes(alloc: Global, profile: &mut Profile, text: &[u8]) -> Result<(), Stop>
-    ensures exact { Gives kind_in (λ _. profile.new.lines) result
-        (with_votes profile.old.alternatives profile.old.lines text.now) }
-    ensures alternatives { OnOk result (profile.new.alternatives ≡ profile.old.alternatives) }
-{
-    if took_usual(alloc, profile, text) {
-        return Ok(());
-    }
-    with_any_votes(alloc, profile, text)
-}
-
 /// Takes a line of votes in whatever shape.
-fn with_any_votes(alloc: Global, profile: &mut Profile, text: &[u8]) -> Result<(), Stop>
+pub fn with_votes(alloc: Global, profile: &mut Profile, text: &[u8]) -> Result<(), Stop>
     ensures exact { Gives kind_in (λ _. profile.new.lines) result
         (with_votes profile.old.alternatives profile.old.lines text.now) }
     ensures alternatives { OnOk result (profile.new.alternatives ≡ profile.old.alternatives) }

@@ -1,6 +1,6 @@
 -- Lines of votes in their usual shape, where some bytes begin with them. The format itself does not stand on this.
 -- (The program's promises don't stand on this file.)
-use Rattle.std.specs.Prelude.{◌≡◌, ℕ, ◌-◌, ◌<◌, Bool, false, List, [], ◌∷◌, ◌++◌, length, None, Ok, if◌then◌else◌}
+use Rattle.std.specs.Prelude.{◌≡◌, ℕ, ◌-◌, ◌<◌, Bool, true, false, List, [], ◌∷◌, ◌++◌, length, None, Ok, if◌then◌else◌}
 use Rattle.std.specs.List.{list_any, slice_index_or, slice_split}
 use Rattle.vir_profile.specs.declared.ballot.Entry.{Entry}
 use Rattle.vir_profile.specs.OrderFaults.{order_fault}
@@ -8,6 +8,10 @@ use Rattle.vir_profile.specs.SocFiles.{is_blank, is_line_feed}
 use Rattle.vir_soc.specs.LineKinds.{ballots}
 use Rattle.vir_soc.specs.Reader.Pieces.{kind_at}
 use Rattle.vir_soc.specs.Votes.{is_brace, is_comma, order_after, with_order, with_votes}
+
+-- a line feed stands somewhere in the bytes
+abbrev pub HasLineFeed : List ℕ → Type 0
+HasLineFeed bytes = list_any is_line_feed bytes ≡ true
 
 -- the bytes begin with the text of this order of m alternatives, which ends in a digit, and the rest stands behind it
 pub record BeginsWithOrder (m : ℕ) (bytes order rest : List ℕ) : Type 0 where

@@ -1,11 +1,13 @@
-use Rattle.std.proofs.Common.{◌≡◌, ◌≤◌, ◌-◌, length, ℕ, List, take, decimal}
+use Rattle.std.proofs.Common.{◌≡◌, ◌≤◌, ◌<◌, ◌-◌, length, ℕ, List, drop, take, decimal}
+use Rattle.vir_soc.specs.Reader.UsualLines.{HasLineFeed}
 use Rattle.vir_soc.proofs.usual.leading_number.Given as goal
 
 pub record SoFar (text : List ℕ) (i number : ℕ) : Type 0 where
   pub digits : take i text ≡ decimal number
   pub some : 1 ≤ number
   pub begun : 1 ≤ i
-  pub within : i ≤ length text
+  pub feed : HasLineFeed (drop i text)
+  pub inside : i < length text
 
 abbrev pub invariant-loop-i : goal.invariant-loop-i
 invariant-loop-i l = SoFar l.text l.i l.number

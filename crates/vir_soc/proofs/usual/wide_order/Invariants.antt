@@ -1,4 +1,4 @@
-use Rattle.std.proofs.Common.{◌≡◌, ◌≤◌, ◌<◌, length, ℕ, List, Bool}
+use Rattle.std.proofs.Common.{◌<◌, length, ℕ, List, Bool}
 use Rattle.vir_soc.proofs.UsualLemmas.{AreSeen, Reads}
 use Rattle.vir_soc.proofs.usual.wide_order.Given as goal
 
