@@ -23,7 +23,8 @@ pub end_line-whole : (p : Progress) (left line end : List ℕ) → IsWhole p lef
 end_line-whole p left line end w =
     let one_line : list_any is_line_feed (w.begun ++ end) ≡ false =
     list_any-append is_line_feed w.begun end ∙ rw (w.first, w.last) refl in
-    let before = ap (before_first is_line_feed) w.joined ∙ before_at is_line_feed (w.begun ++ end) 10 [] one_line refl in
+    let before = ap (before_first is_line_feed) w.joined
+    ∙ before_at is_line_feed (w.begun ++ end) 10 [] one_line refl in
     rw (w.nothing, before, w.taken) refl
 
 -- and its fault is that of the line

@@ -37,7 +37,8 @@ feed_at xs i within h = let l = feed_inside (drop i xs) h in let e = length-drop
 -- one byte further
 pub feed_step : (xs : List ℕ) (i : ℕ) → i < length xs → is_line_feed (get_or xs i 0) ≡ false
     → HasLineFeed (drop i xs) → HasLineFeed (drop (i + 1) xs)
-feed_step xs i inside other h = feed_behind (get_or xs i 0) (drop i xs) (drop (i + 1) xs) (drop_more xs i 0 inside) other h
+feed_step xs i inside other h = feed_behind (get_or xs i 0) (drop i xs) (drop (i + 1) xs) (drop_more xs i 0 inside)
+    other h
 
 -- where nothing stands behind the last one
 pub unended_feed : (xs : List ℕ) → 0 < length xs → unended [] xs ≡ [] → HasLineFeed xs

@@ -233,7 +233,8 @@ pub length-ended : (begun bytes : List ℕ) → length (ended begun bytes) ≤ l
 unfolding ended
 length-ended begun [] = omega arith
 length-ended begun (c ∷ cs) =
-    elim (is_line_feed c) as (λ b. length (cond b (begun ∷ ended [] cs) (ended (begun ++ c ∷ []) cs)) ≤ suc (length cs)) [
+    elim (is_line_feed c) as (λ b. length (cond b (begun ∷ ended [] cs) (ended (begun ++ c ∷ []) cs))
+    ≤ suc (length cs)) [
       | true ↦ let l = length-ended [] cs in omega arith
       | false ↦ let l = length-ended (begun ++ c ∷ []) cs in omega arith
     ]
@@ -255,8 +256,8 @@ module _ (p next : Progress) (bytes : List ℕ) where
 pub reads_open : (p q : Progress) (bytes front back : List ℕ) → bytes ≡ front ++ back → reads p front ≡ Ok q
     → list_any is_line_feed back ≡ false
     → reads p bytes ≡ Ok (record { content = q.content; line = q.line; begun = q.begun ++ back })
-reads_open p q bytes front back e is none = ap (reads p) e ∙ reads_append p front back ∙ ap (λ r. r >>= λ q. reads q back) is
-    ∙ reads_none q back (position-none is_line_feed back none)
+reads_open p q bytes front back e is none = ap (reads p) e ∙ reads_append p front back
+    ∙ ap (λ r. r >>= λ q. reads q back) is ∙ reads_none q back (position-none is_line_feed back none)
 
 -- a fault of the bytes before others
 pub reads_append_fails : (p : Progress) (bytes front back : List ℕ) (e : SocError) → bytes ≡ front ++ back

@@ -395,8 +395,8 @@ pub BeginsWithLine-taken : (votes : Votes) (entry : Entry) (bytes end rest : Lis
 BeginsWithLine-taken votes entry bytes end rest v e h = ended_line votes entry bytes end rest v e.returned e.parts h
 
 -- the line that the bytes begin with
-module _ (content : Content) (n m : ℕ) (bytes rest : List ℕ) (after : List Entry) (l : BeginsWithLine m bytes content.votes
-    after rest) where
+module _ (content : Content) (n m : ℕ) (bytes rest : List ℕ) (after : List Entry)
+    (l : BeginsWithLine m bytes content.votes after rest) where
   pub before_first-line : before_first is_line_feed bytes ≡ l.line
   before_first-line = ap (before_first is_line_feed) l.parts
       ∙ before_at is_line_feed l.line 10 rest l.one_line refl

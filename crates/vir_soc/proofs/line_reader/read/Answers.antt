@@ -19,7 +19,8 @@ returns-clause-exact c =
     let back = c.split_at.result.1.now in
     let none = ap (list_any is_line_feed) c.split_at.ensures.back ∙ c.ended_len.ensures.begun in
     rw c.in_ok-extend.ensures (reads_open (progress_of c.args.reader.now) (progress_of c.take_ended_lines.new.reader)
-    c.args.piece.now c.split_at.result.0.now back c.split_at.ensures.by_index.0 c.in_ok-take_ended_lines.ensures.exact none)
+    c.args.piece.now c.split_at.result.0.now back c.split_at.ensures.by_index.0
+    c.in_ok-take_ended_lines.ensures.exact none)
 
 pub returns-clause-line : goal.returns-clause-line
 returns-clause-line c =

@@ -19,8 +19,8 @@ returns-in_err-take_line-clause-exact c =
       joined = c.deref.ensures.value ∙ c.in_ok-extend_from_slice-2.ensures.items
           ∙ ap (λ bytes. bytes ++ 10 ∷ []) c.in_ok-extend_from_slice.ensures.items;
     } in
-    rw (p.1, p.2, ← c.first_line.ensures.line) (end_line-whole_fails (progress_of c.args.reader.now) c.take-line.new.self
-    c.deref.result.now end c.in_err-take_line.field-0.0 whole c.in_err-take_line.ensures.exact)
+    rw (p.1, p.2, ← c.first_line.ensures.line) (end_line-whole_fails (progress_of c.args.reader.now)
+    c.take-line.new.self c.deref.result.now end c.in_err-take_line.field-0.0 whole c.in_err-take_line.ensures.exact)
 
 pub returns-clause-exact : goal.returns-clause-exact
 returns-clause-exact c =

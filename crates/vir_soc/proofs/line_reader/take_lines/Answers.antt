@@ -37,8 +37,8 @@ pub returns-in_err-rest : goal.returns-in_err-rest
 returns-in_err-rest c =
     let p = err_from_is_err_and c.from_residual.result c.from_residual.ensures.1 in
     record {
-      exact = rw (p.1, p.2, c.loop-rest.invariant.same) (reads_fails (progress_of c.loop-rest.reader) c.loop-rest.rest.now
-          c.in_err-rest.field-0.0 (has_feed c.loop-rest.rest.now c.loop-rest-test.ensures c.loop-rest.invariant.ended)
+      exact = rw (p.1, p.2, c.loop-rest.invariant.same) (reads_fails (progress_of c.loop-rest.reader)
+          c.loop-rest.rest.now c.in_err-rest.field-0.0 (has_feed c.loop-rest.rest.now c.loop-rest-test.ensures c.loop-rest.invariant.ended)
           c.in_err-rest.ensures.exact);
     }
 

@@ -34,7 +34,8 @@ loop-order-preserved c =
     c.in_ok-next.ensures.some (omega arith) c.unspaced.ensures.digits c.in_ok-next.ensures.text in
     record {
       reads = rw c.in-Ok.ensures.items (Reads-next c.args.m x c.args.bytes.now order _ _
-          c.loop-order.invariant.reads first c.in_ok-next.ensures.some (omega arith) once c.in_ok-rest.rest.now c.in_ok-rest.ensures);
+          c.loop-order.invariant.reads first c.in_ok-next.ensures.some (omega arith) once c.in_ok-rest.rest.now
+          c.in_ok-rest.ensures);
       size = omega (arith, c.loop-order.invariant.size, length-set c.loop-order.seen x true);
       marks = rw c.in-Ok.ensures.items (seen_more c.args.m x c.loop-order.seen order
           (omega (arith, c.loop-order.invariant.size)) c.loop-order.invariant.marks);
