@@ -36,11 +36,11 @@ take_line-requires-clause-feed c = has_feed c.loop-rest.rest.now c.loop-rest-tes
 pub returns-in_err-rest : goal.returns-in_err-rest
 returns-in_err-rest c =
     let p = err_from_is_err_and c.from_residual.result c.from_residual.ensures.1 in
-    record {
-      exact = rw (p.1, p.2, c.loop-rest.invariant.same) (reads_fails (progress_of c.loop-rest.reader)
-          c.loop-rest.rest.now c.in_err-rest.field-0.0 (has_feed c.loop-rest.rest.now c.loop-rest-test.ensures c.loop-rest.invariant.ended)
-          c.in_err-rest.ensures.exact);
-    }
+    let rest = c.loop-rest.rest.now in
+    let feed = has_feed rest c.loop-rest-test.ensures c.loop-rest.invariant.ended in
+    let fails = reads_fails (progress_of c.loop-rest.reader) rest c.in_err-rest.field-0.0 feed
+    c.in_err-rest.ensures.exact in
+    record { exact = rw (p.1, p.2, c.loop-rest.invariant.same) fails }
 
 pub loop-rest-preserved : goal.loop-rest-preserved
 loop-rest-preserved c = SoFar-next _ (progress_of c.loop-rest.reader) (progress_of c.take_line.new.reader) _
