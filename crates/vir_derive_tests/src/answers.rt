@@ -1,11 +1,11 @@
 // First derivations, and reasons, of small rules that are read from their texts.
-use crate::texts::term_of;
 use either::Either;
 use std::alloc::Global;
 use std::process::Abort;
 use vir_derive::{DerivableProps, Derivations, PropsTree, are_opposed, derive};
 use vir_read::TextError;
 use vir_rules::{Derivation, Form, Judgement, Prop, Why};
+use vir_samples::term_of;
 
 // A rule, a property, and the first derivation: its rule, and those of its children.
 const DERIVED: &[(&str, Prop, &str, &[&str])] = &[

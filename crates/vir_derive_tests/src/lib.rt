@@ -2,13 +2,10 @@
 //! others, and signatures.
 //!
 //! There is no code but the tests, so the crate has no contract, and `vir_derive` is proved without them.
-//! It stands on `vir_derive` and `vir_rules`, on `vir_term`, `vir_read` and `vir_book` for the terms, and on
-//! `either`.
+//! It stands on `vir_derive` and `vir_rules`, on `vir_samples` and `vir_read` for the terms, and on `either`.
 #![tactic(auto)]
 
 #[cfg(test)]
 mod answers;
 #[cfg(test)]
 mod signatures;
-#[cfg(test)]
-mod texts;

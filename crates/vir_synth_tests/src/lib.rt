@@ -2,12 +2,10 @@
 //! properties.
 //!
 //! There is no code but the tests, so the crate has no contract, and `vir_synth` is proved without them.
-//! It stands on `vir_synth` and `vir_rules`, and on `vir_term`, `vir_read` and `vir_book` for the modules.
+//! It stands on `vir_synth` and `vir_rules`, on `vir_samples` and `vir_read` for the modules, and on `vir_term`.
 #![tactic(auto)]
 
 #[cfg(test)]
 mod lists;
-#[cfg(test)]
-mod modules;
 #[cfg(test)]
 mod searches;
