@@ -1,13 +1,13 @@
 // The 27 modules that are shortest to write, on three small profiles.
+use crate::elections::election_of;
 use std::alloc::Global;
 use std::process::Abort;
 use std::test::Fail;
 use vir_counter::{Counter, EliminatorCounter, FixedCounter, OrderCounter, PluralityCounter};
 use vir_mean::plain_result;
-use vir_profile::{AltSet, SocFile};
+use vir_profile::AltSet;
 use vir_samples::{CYCLE, DIVIDED, Votes, profile_of};
 use vir_score::KeptScore;
-use vir_tables::Election;
 use vir_term::{FixedOrder, Leaf, Score, Term};
 
 // One that beats both others, without most first places; a cycle; and a single ballot.
@@ -29,10 +29,7 @@ fn expect_same<C: Counter>(
     leaf: Leaf,
 ) -> Result<(), Fail> {
     for votes in PROFILES {
-        let election = Election::of(
-            alloc,
-            SocFile::of(profile_of(alloc, votes)?, Vec::new(alloc)),
-        )?;
+        let election = election_of(alloc, votes)?;
         let domain = AltSet::all(election.alternatives());
         assert!(rt; counter.serves(&leaf));
         let counted = counter.split(&leaf, &election, &domain);

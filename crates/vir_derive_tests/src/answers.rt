@@ -133,9 +133,3 @@ fn each_part_has_its_properties(rt: HostRuntime) -> Result<(), TextError> {
     assert!(rt; DerivableProps::of_parts(Form::of(&term), first, second, false) == *props.own());
     Ok(())
 }
-
-#[test]
-fn the_laws_can_be_called() {
-    vir_derive::laws::numbers_close();
-    vir_derive::laws::equal_signatures_say_the_same();
-}

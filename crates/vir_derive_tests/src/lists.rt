@@ -77,8 +77,3 @@ fn smaller_first_parts_stand_first(rt: HostRuntime) -> Result<(), TextError> {
     }
     Ok(())
 }
-
-#[test]
-fn the_law_can_be_called() {
-    vir_synth::laws::terms_are_composed();
-}
