@@ -1,12 +1,12 @@
 // What is answered of properties and their derivations.
 use crate::expected::{Expected, is_answered};
-use crate::rules::{ALL, are_in_range, modules_of, rule_of};
 use std::alloc::{AllocError, Global};
 use std::process::Abort;
 use vir_cert::read_cert;
 use vir_claims::{check, prove, synth};
 use vir_course::Answer;
 use vir_rules::Prop;
+use vir_samples::{MODULES, modules_of, term_of};
 
 // A certificate.
 const MONOTONE: &str = "virage-certificate 1
@@ -40,7 +40,7 @@ const PROVED: &[(&str, Prop, Expected)] = &[
 
 // What `prove` answers.
 fn proved(alloc: Global, rule: &str, prop: Prop) -> Option<Answer> {
-    let rule = rule_of(alloc, rule).ok()?;
+    let rule = term_of(alloc, rule).ok()?;
     prove(alloc, &rule, prop).ok()
 }
 
@@ -110,7 +110,7 @@ const FOUND: &[(u32, &[Prop], &[&str], Expected)] = &[
     (
         3,
         &[Prop::Cc, Prop::Mono, Prop::El],
-        ALL,
+        MODULES,
         Expected::Text(THREE_HELD),
     ),
     (
@@ -123,7 +123,7 @@ const FOUND: &[(u32, &[Prop], &[&str], Expected)] = &[
     (
         9,
         &[Prop::Ne, Prop::El],
-        ALL,
+        MODULES,
         Expected::Denial("none up to 9\n"),
     ),
 ];
@@ -131,9 +131,6 @@ const FOUND: &[(u32, &[Prop], &[&str], Expected)] = &[
 // What `synth` answers.
 fn found(alloc: Global, size: u32, props: &[Prop], modules: &[&str]) -> Option<Answer> {
     let modules = modules_of(alloc, modules).ok()?;
-    if !are_in_range(&modules) {
-        return None;
-    }
     synth(alloc, size, props, &modules).ok()
 }
 

@@ -1,8 +1,6 @@
 // What is answered of cases against rules.
 use crate::expected::Expected::{self, Denial, Text};
 use crate::expected::is_answered;
-use crate::rules::rule_of;
-use crate::votes::{Votes, profile_of};
 use std::alloc::Global;
 use std::process::Abort;
 use std::test::Fail;
@@ -10,21 +8,16 @@ use vir_claims::refute;
 use vir_course::Answer;
 use vir_refute::{Case, is_about};
 use vir_rules::Prop;
+use vir_samples::{AFTER, BEFORE, CYCLE, DIVIDED, Votes, profile_of, term_of};
 
 // What `refute` answers.
 fn refuted(alloc: Global, rule: &str, prop: Prop, case: &Case) -> Option<Answer> {
-    let rule = rule_of(alloc, rule).ok()?;
+    let rule = term_of(alloc, rule).ok()?;
     if !is_about(prop, case) {
         return None;
     }
     refute(alloc, &rule, prop, case).ok()
 }
-
-// Alternative 1 has most first places, and loses to each of the others; 2 beats both others.
-const DIVIDED: Votes<'static> = &[(4, [1, 2, 3]), (3, [2, 3, 1]), (2, [3, 2, 1])];
-
-// No alternative beats both others.
-const CYCLE: Votes<'static> = &[(1, [1, 2, 3]), (1, [2, 3, 1]), (1, [3, 1, 2])];
 
 // Rules, and what is answered of a profile as a case against being Condorcet consistent.
 const ON_WINNERS: &[(&str, Votes<'static>, Expected)] = &[
@@ -48,22 +41,7 @@ fn one_profile_against_a_rule(rt: HostRuntime) -> Result<(), Fail> {
     Ok(())
 }
 
-// By first places 3 goes, with 5 to 6 and 6; its voters prefer 1 to 2, so 1 is elected.
-const BEFORE: Votes<'static> = &[
-    (6, [1, 2, 3]),
-    (5, [3, 1, 2]),
-    (4, [2, 3, 1]),
-    (2, [2, 1, 3]),
-];
-
-// Two voters lift 1. Now 2 goes, with 4 first places; its voters prefer 3 to 1, so 3 is elected.
-const AFTER: Votes<'static> = &[
-    (6, [1, 2, 3]),
-    (5, [3, 1, 2]),
-    (4, [2, 3, 1]),
-    (2, [1, 2, 3]),
-];
-
+// Elects 1 before, and 3 after.
 const RUNOFF: &str = "seq(loop(1,min(plurality)),elect)";
 
 // Second profiles, lifted alternatives, and what is answered of them, with the first profile, as cases against being

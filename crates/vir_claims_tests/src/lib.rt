@@ -2,8 +2,8 @@
 //! answer for small rules.
 //!
 //! There is no code but the tests, so the crate has no contract, and `vir_claims` is proved without them.
-//! It stands on `vir_claims`, on `vir_course` for answers, on `vir_cert` for certificates, on `vir_refute` and
-//! `vir_profile` for cases, and on `vir_book` and the crates below for the rules.
+//! It stands on `vir_claims`, on `vir_course` for answers, on `vir_cert` for certificates, on `vir_refute` for
+//! cases, on `vir_rules` for properties, and on `vir_samples` for profiles, rules and modules.
 #![tactic(auto)]
 
 #[cfg(test)]
@@ -13,8 +13,4 @@ mod cases;
 #[cfg(test)]
 mod expected;
 #[cfg(test)]
-mod rules;
-#[cfg(test)]
 mod simple_rules;
-#[cfg(test)]
-mod votes;

@@ -1,11 +1,11 @@
 // What rules are simplified to.
 use crate::expected::Expected::Text;
 use crate::expected::is_answered;
-use crate::rules::rule_of;
 use std::alloc::{AllocError, Global};
 use std::process::Abort;
 use vir_claims::simplify;
 use vir_course::Answer;
+use vir_samples::term_of;
 
 // What is printed of a rule that three steps simplify: each place is numbered in the term before its step.
 const THREE_STEPS: &str = "simple max(borda)
@@ -26,7 +26,7 @@ const SIMPLIFIED: &[(&str, &str)] = &[
 
 // What `simplify` answers.
 fn simplified(alloc: Global, rule: &str) -> Option<Answer> {
-    let rule = rule_of(alloc, rule).ok()?;
+    let rule = term_of(alloc, rule).ok()?;
     simplify(alloc, &rule).ok()
 }
 

@@ -1,38 +1,25 @@
 // Scores and rounds of small elections, worked out by hand.
-ghost use Rattle.std.specs.Prelude.{◌≤◌};
 ghost use Rattle.vir_altset.specs.Sets.{IsPart};
 
+use crate::elections::election_of;
 use std::alloc::Global;
 use std::process::Abort;
 use std::test::Fail;
 use vir_counter::{Counter, EliminatorCounter};
 use vir_profile::{AltSet, Ballot, Entry, Profile, SocFile};
+use vir_samples::{CYCLE, DIVIDED};
 use vir_score::{KeptScore, borda_score, plurality_score};
 use vir_tables::Election;
 use vir_term::{Leaf, Score};
 
-type Votes = &'static [(u64, &'static [u16])];
-
-// Each of the three beats one other.
-const CYCLE: Votes = &[(1, &[1, 2, 3]), (1, &[2, 3, 1]), (1, &[3, 1, 2])];
-
 // As many voters as there may be, of one opinion.
-const CROWD: Votes = &[(18_446_744_073_709_551_615, &[1, 2])];
-
-const DIVIDED: Votes = &[(4, &[1, 2, 3]), (3, &[2, 3, 1]), (2, &[3, 2, 1])];
-
-fn election_of(alloc: Global, votes: Votes, alternatives: u16) -> Result<Election, Fail>
-    requires some { 1 ≤ alternatives }
-    requires few { alternatives ≤ 3 }
-{
-    let mut profile = Profile::new(alloc, alternatives);
-    for (weight, order) in votes {
-        let order = Ballot::from_slice(alloc, order)?;
-        let weight = *weight;
-        profile
-            .add(Entry { weight, order })
-            .map_err(|refused| refused.fault)?;
-    }
+fn election_of_a_crowd(alloc: Global) -> Result<Election, Fail> {
+    let mut profile = Profile::new(alloc, 2);
+    let order = Ballot::from_slice(alloc, &[1, 2])?;
+    let weight = 18_446_744_073_709_551_615;
+    profile
+        .add(Entry { weight, order })
+        .map_err(|refused| refused.fault)?;
     Ok(Election::of(alloc, SocFile::of(profile, Vec::new(alloc)))?)
 }
 
@@ -45,11 +32,11 @@ fn expect_borda(rt: &impl Abort, election: &Election, x: u16, score: i128) {
 
 #[test]
 fn borda_scores_of_a_cycle_and_of_a_crowd(rt: HostRuntime) -> Result<(), Fail> {
-    let cycle = election_of(rt.alloc(), CYCLE, 3)?;
+    let cycle = election_of(rt.alloc(), CYCLE)?;
     for x in 1..4 {
         expect_borda(&rt, &cycle, x, 3);
     }
-    let crowd = election_of(rt.alloc(), CROWD, 2)?;
+    let crowd = election_of_a_crowd(rt.alloc())?;
     expect_borda(&rt, &crowd, 1, 18_446_744_073_709_551_615);
     expect_borda(&rt, &crowd, 2, 0);
     Ok(())
@@ -65,7 +52,7 @@ fn part(whole: &AltSet, some: &AltSet) -> AltSet
 // First places are 4, 3, 2, so 3 goes; then, of two, 4 and 5, so 1 goes. In a cycle nobody goes.
 #[test]
 fn rounds_go_by_the_ballots_that_are_left(rt: HostRuntime) -> Result<(), Fail> {
-    let election = election_of(rt.alloc(), DIVIDED, 3)?;
+    let election = election_of(rt.alloc(), DIVIDED)?;
     let mut counter = EliminatorCounter::new(KeptScore::new(Score::Plurality));
     let round = Leaf::Min(Score::Plurality);
     let all = AltSet::all(election.alternatives());
@@ -76,7 +63,7 @@ fn rounds_go_by_the_ballots_that_are_left(rt: HostRuntime) -> Result<(), Fail> {
     let second = counter.split(&round, &election, &left);
     assert!(rt; second.rejected.count() == 1 && second.rejected.first_after(0) == Some(1));
     assert!(rt; left.has(2) && plurality_score(&election, &left, 2) == 5);
-    let cycle = election_of(rt.alloc(), CYCLE, 3)?;
+    let cycle = election_of(rt.alloc(), CYCLE)?;
     let all = AltSet::all(cycle.alternatives());
     let third = counter.split(&round, &cycle, &all);
     assert!(rt; third.deferred.count() == 3 && counter.calls() == 3);

@@ -1,22 +1,17 @@
 // The 27 modules that are shortest to write, on three small profiles.
-use std::alloc::{AllocError, Global};
+use crate::elections::election_of;
+use std::alloc::Global;
 use std::process::Abort;
 use std::test::Fail;
 use vir_counter::{Counter, EliminatorCounter, FixedCounter, OrderCounter, PluralityCounter};
 use vir_mean::plain_result;
-use vir_profile::{AltSet, Ballot, Entry, Profile, SocFile};
+use vir_profile::AltSet;
+use vir_samples::{CYCLE, DIVIDED, Votes, profile_of};
 use vir_score::KeptScore;
-use vir_tables::Election;
 use vir_term::{FixedOrder, Leaf, Score, Term};
 
-type Votes = &'static [(u64, [u16; 3])];
-
 // One that beats both others, without most first places; a cycle; and a single ballot.
-const PROFILES: &[Votes] = &[
-    &[(4, [1, 2, 3]), (3, [2, 3, 1]), (2, [3, 2, 1])],
-    &[(1, [1, 2, 3]), (1, [2, 3, 1]), (1, [3, 1, 2])],
-    &[(1, [3, 1, 2])],
-];
+const PROFILES: &[Votes<'static>] = &[DIVIDED, CYCLE, &[(1, [3, 1, 2])]];
 
 const SCORES: &[Score] = &[
     Score::Plurality,
@@ -26,18 +21,6 @@ const SCORES: &[Score] = &[
     Score::Condorcet,
 ];
 
-fn profile_of(alloc: Global, votes: Votes) -> Result<Profile, Fail> {
-    let mut profile = Profile::new(alloc, 3);
-    for (weight, order) in votes {
-        let order = Ballot::from_slice(alloc, order)?;
-        let weight = *weight;
-        profile
-            .add(Entry { weight, order })
-            .map_err(|refused| refused.fault)?;
-    }
-    Ok(profile)
-}
-
 // The counter and the literally restricted ballots give the same split of all alternatives.
 fn expect_same<C: Counter>(
     rt: &impl Abort,
@@ -46,10 +29,7 @@ fn expect_same<C: Counter>(
     leaf: Leaf,
 ) -> Result<(), Fail> {
     for votes in PROFILES {
-        let election = Election::of(
-            alloc,
-            SocFile::of(profile_of(alloc, votes)?, Vec::new(alloc)),
-        )?;
+        let election = election_of(alloc, votes)?;
         let domain = AltSet::all(election.alternatives());
         assert!(rt; counter.serves(&leaf));
         let counted = counter.split(&leaf, &election, &domain);

@@ -1,11 +1,11 @@
 // First derivations, and reasons, of small rules that are read from their texts.
-use crate::texts::term_of;
 use either::Either;
 use std::alloc::Global;
 use std::process::Abort;
 use vir_derive::{DerivableProps, Derivations, PropsTree, are_opposed, derive};
 use vir_read::TextError;
 use vir_rules::{Derivation, Form, Judgement, Prop, Why};
+use vir_samples::term_of;
 
 // A rule, a property, and the first derivation: its rule, and those of its children.
 const DERIVED: &[(&str, Prop, &str, &[&str])] = &[
@@ -132,10 +132,4 @@ fn each_part_has_its_properties(rt: HostRuntime) -> Result<(), TextError> {
     assert!(rt; props.own().has(Prop::El) && !props.own().has(Prop::Ne));
     assert!(rt; DerivableProps::of_parts(Form::of(&term), first, second, false) == *props.own());
     Ok(())
-}
-
-#[test]
-fn the_laws_can_be_called() {
-    vir_derive::laws::numbers_close();
-    vir_derive::laws::equal_signatures_say_the_same();
 }

@@ -1,5 +1,4 @@
 // Signatures of small rules that are read from their texts, and those of compositions.
-use crate::texts::term_of;
 use std::alloc::Global;
 use std::process::Abort;
 use vir_derive::{
@@ -7,6 +6,7 @@ use vir_derive::{
 };
 use vir_read::TextError;
 use vir_rules::Prop;
+use vir_samples::term_of;
 
 // The signature of a rule's text for the numbers 1, 2 and 7.
 fn signature_of(alloc: Global, text: &str) -> Result<Signature, TextError> {

@@ -2,29 +2,14 @@
 use crate::rules::Word;
 use crate::rules::Word::{Drop, Loop, Module, Par, Pass, Seq};
 use crate::splits::{ALL, Row, expect_splits};
-use crate::votes::{CYCLE, DIVIDED, SILENT, Votes};
+use crate::votes::SILENT;
 use std::test::Fail;
+use vir_samples::{AFTER, BEFORE, CYCLE, DIVIDED, Votes};
 use vir_term::LeafKind::{Defer, Elect, Max, Min, Plurality};
 use vir_term::Score;
 
 // The alternative that fewest put first goes, until one is left, who is elected.
 const INSTANT_RUNOFF: &[Word] = &[Module(Min(Score::Plurality)), Loop(1), Module(Elect), Seq];
-
-// First 3 goes, with 5 first places to 6 and 6; its voters prefer 1 to 2.
-const BEFORE: Votes<'static> = &[
-    (6, [1, 2, 3]),
-    (5, [3, 1, 2]),
-    (4, [2, 3, 1]),
-    (2, [2, 1, 3]),
-];
-
-// Two voters lift 1. Now 2 goes first, with 4 first places, and its voters prefer 3 to 1.
-const AFTER: Votes<'static> = &[
-    (6, [1, 2, 3]),
-    (5, [3, 1, 2]),
-    (4, [2, 3, 1]),
-    (2, [1, 2, 3]),
-];
 
 // Two voters prefer 1 to 2, and then lift 2. No rule is asked about 3.
 const LOW: Votes<'static> = &[(2, [1, 2, 3]), (1, [2, 1, 3])];

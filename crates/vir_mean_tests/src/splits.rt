@@ -1,12 +1,13 @@
 // Rules on small profiles.
 use crate::rules::Word::{Drop, Loop, Module, Par, Pass, Rev, Seq, Until};
 use crate::rules::{Word, term_of};
-use crate::votes::{CYCLE, DIVIDED, SILENT, Votes, profile_of, set_of};
+use crate::votes::{SILENT, set_of};
 use std::alloc::Global;
 use std::process::Abort;
 use std::test::Fail;
 use vir_mean::plain_result;
 use vir_profile::Split;
+use vir_samples::{CYCLE, DIVIDED, Votes, profile_of};
 use vir_term::LeafKind::{Below, Defer, Elect, Max, Min, Plurality, Upto};
 use vir_term::Score;
 

@@ -1,7 +1,7 @@
 //! The tests of `vir_refute`, in a crate of their own: the verdicts on small cases, worked out by hand.
 //!
 //! There is no code but the tests, so the crate has no contract, and `vir_refute` is proved without them.
-//! It stands on `vir_refute`, on `vir_profile` for the profiles, and on `vir_book` for reading the rules.
+//! It stands on `vir_refute`, on `vir_samples` for the profiles, and on `vir_book` for reading the rules.
 #![tactic(auto)]
 
 #[cfg(test)]
@@ -12,5 +12,3 @@ mod pairs;
 mod profiles;
 #[cfg(test)]
 mod verdicts;
-#[cfg(test)]
-mod votes;

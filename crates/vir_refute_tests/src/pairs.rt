@@ -1,27 +1,11 @@
 // Properties of lifts, on pairs of small profiles.
 use crate::verdicts::expect_verdict;
-use crate::votes::{Votes, profile_of};
 use std::test::Fail;
 use vir_refute::Case;
 use vir_refute::CaseVerdict::{self, NotViolated, Violated};
 use vir_refute::Reason::{ClauseHolds, NotALift, PremiseNotMet};
+use vir_samples::{AFTER, BEFORE, Votes, profile_of};
 use vir_term::Prop::{self, Dimono, Dli, Dmono, Imono, Mono};
-
-// By first places 3 goes, with 5 to 6 and 6; its voters prefer 1 to 2.
-const BEFORE: Votes<'static> = &[
-    (6, [1, 2, 3]),
-    (5, [3, 1, 2]),
-    (4, [2, 3, 1]),
-    (2, [2, 1, 3]),
-];
-
-// Two voters lift 1. Now 2 goes first, with 4 first places, and its voters prefer 3 to 1.
-const AFTER: Votes<'static> = &[
-    (6, [1, 2, 3]),
-    (5, [3, 1, 2]),
-    (4, [2, 3, 1]),
-    (2, [1, 2, 3]),
-];
 
 // The lift of 1 with other weights, with a line less, and with 2 and 3 exchanged in a line.
 const OTHER_WEIGHT: Votes<'static> = &[

@@ -1,17 +1,11 @@
 // Properties of one election, on small profiles.
 use crate::verdicts::expect_verdict;
-use crate::votes::{Votes, profile_of};
 use std::test::Fail;
 use vir_refute::Case;
 use vir_refute::CaseVerdict::{self, NotViolated, Violated};
 use vir_refute::Reason::{ClauseHolds, PremiseNotMet};
+use vir_samples::{CYCLE, DIVIDED, profile_of};
 use vir_term::Prop::{self, Cc, Ccomp, Cprog, Dcc, Decr, Defers, Ea, El, Elim, Nb, Ne, Rejects};
-
-// Alternative 1 has most first places, and loses to each of the others; 2 beats both others.
-const DIVIDED: Votes<'static> = &[(4, [1, 2, 3]), (3, [2, 3, 1]), (2, [3, 2, 1])];
-
-// No alternative beats both others.
-const CYCLE: Votes<'static> = &[(1, [1, 2, 3]), (1, [2, 3, 1]), (1, [3, 1, 2])];
 
 // A rule, a property, and what is said.
 type Row = (&'static str, Prop, CaseVerdict);

@@ -1,8 +1,9 @@
 // Steps that are replayed.
-use crate::terms::{expect_text, steps_of, term_of};
+use crate::terms::{expect_text, steps_of};
 use std::alloc::{AllocError, Global};
 use std::process::Abort;
 use vir_read::TextError;
+use vir_samples::term_of;
 use vir_simplify::Equation::{self, *};
 use vir_simplify::replay;
 
@@ -40,7 +41,7 @@ const ROWS: &[Row] = &[
 
 fn expect_replay(rt: &impl Abort, alloc: Global, row: &Row) -> Result<(), TextError> {
     let Row(text, steps, expected) = row;
-    let term = term_of(alloc, text.as_bytes())?;
+    let term = term_of(alloc, text)?;
     let steps = steps_of(alloc, steps)?;
     match (replay(alloc, &term, &steps)?, expected) {
         (Some(found), Some(expected)) => Ok(expect_text(rt, alloc, &found, expected)?),
@@ -60,16 +61,17 @@ fn steps_are_taken_in_their_order(rt: HostRuntime) -> Result<(), TextError> {
 }
 
 // `seq(seq(elect,elect),m)`, where m is so many revisions of `elect`.
-fn deep_text(alloc: Global, revisions: usize) -> Result<Vec<u8>, AllocError> {
-    let mut text = Vec::from_slice(alloc, b"seq(seq(elect,elect),")?;
+fn deep_text(alloc: Global, revisions: usize) -> Result<String, AllocError> {
+    let mut text = String::new(alloc);
+    text.push_str("seq(seq(elect,elect),")?;
     for _ in 0..revisions {
-        text.extend_from_slice(b"rev(")?;
+        text.push_str("rev(")?;
     }
-    text.extend_from_slice(b"elect")?;
+    text.push_str("elect")?;
     for _ in 0..revisions {
-        text.extend_from_slice(b")")?;
+        text.push_str(")")?;
     }
-    text.extend_from_slice(b")")?;
+    text.push_str(")")?;
     Ok(text)
 }
 

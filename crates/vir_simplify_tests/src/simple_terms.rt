@@ -1,8 +1,9 @@
 // Terms, and what they are simplified to.
-use crate::terms::{expect_text, steps_of, term_of};
+use crate::terms::{expect_text, steps_of};
 use std::alloc::Global;
 use std::process::Abort;
 use vir_read::TextError;
+use vir_samples::term_of;
 use vir_simplify::Equation::{self, *};
 use vir_simplify::{next_step, replay, simplify};
 
@@ -107,7 +108,7 @@ const NO_STEP: &[Row] = &[
 
 fn expect_rows(rt: &impl Abort, alloc: Global, rows: &[Row]) -> Result<(), TextError> {
     for Row(text, simple, steps) in rows {
-        let term = term_of(alloc, text.as_bytes())?;
+        let term = term_of(alloc, text)?;
         assert!(rt; term.within_limits());
         let steps = steps_of(alloc, steps)?;
         assert!(rt; next_step(&term) == steps.first().copied(), "{text}");

@@ -2,8 +2,8 @@
 use std::alloc::Global;
 use std::process::Abort;
 use std::test::Fail;
-use vir_book::read_book;
 use vir_rules::{Judgement, Prop, RuleId, fits, premise, premise_count};
+use vir_samples::term_of;
 
 // A rule's number and name; a property and a term that it fits; and the premises, each a property and a term.
 const ROWS: &[(usize, &str, Prop, &str, &[(Prop, &str)])] = &[
@@ -141,11 +141,8 @@ fn expect_premise(
 fn later_rules_fit_and_have_premises(rt: HostRuntime) -> Result<(), Fail> {
     let alloc = rt.alloc();
     for (number, name, prop, text, premises) in ROWS {
-        let book = read_book(alloc, format!(in alloc; "r = {text};")?.as_bytes())?;
-        let judgement = Judgement::Of {
-            prop: *prop,
-            term: book.last_rule(),
-        };
+        let term = &term_of(alloc, text)?;
+        let judgement = Judgement::Of { prop: *prop, term };
         let Some(rule) = RuleId::named(name.as_bytes()) else {
             assert!(rt; false, "{name}");
             return Ok(());
@@ -166,11 +163,8 @@ fn later_rules_fit_and_have_premises(rt: HostRuntime) -> Result<(), Fail> {
 fn later_rules_fit_nothing_else(rt: HostRuntime) -> Result<(), Fail> {
     let alloc = rt.alloc();
     for (name, prop, text) in MISFITS {
-        let book = read_book(alloc, format!(in alloc; "r = {text};")?.as_bytes())?;
-        let judgement = Judgement::Of {
-            prop: *prop,
-            term: book.last_rule(),
-        };
+        let term = &term_of(alloc, text)?;
+        let judgement = Judgement::Of { prop: *prop, term };
         let rule = RuleId::named(name.as_bytes());
         assert!(rt;
             rule.is_some_and(|rule| !fits(rule, judgement)),

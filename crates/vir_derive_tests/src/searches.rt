@@ -1,9 +1,9 @@
 // The first terms with some properties.
-use crate::modules::{DEFAULT, leaves_of};
 use std::alloc::{AllocError, Global};
 use std::process::Abort;
 use vir_read::TextError;
 use vir_rules::Prop;
+use vir_samples::{MODULES, modules_of};
 use vir_synth::{first_fast, first_plain};
 use vir_term::Term;
 
@@ -12,19 +12,19 @@ const FOUND: &[(u32, &[Prop], &[&str], Option<&str>)] = &[
     (
         3,
         &[Prop::Cc, Prop::Mono, Prop::El],
-        DEFAULT,
+        MODULES,
         Some("seq(max(copeland),elect)"),
     ),
     (3, &[Prop::El, Prop::Mono], &["elect"], Some("elect")),
-    (2, &[Prop::Cc, Prop::Mono, Prop::El], DEFAULT, None),
-    (3, &[Prop::Ne, Prop::El], DEFAULT, None),
+    (2, &[Prop::Cc, Prop::Mono, Prop::El], MODULES, None),
+    (3, &[Prop::Ne, Prop::El], MODULES, None),
     (
         1,
         &[Prop::Defers(7)],
         &["pass(2)", "pass(7)"],
         Some("pass(7)"),
     ),
-    (0, &[Prop::El], DEFAULT, None),
+    (0, &[Prop::El], MODULES, None),
 ];
 
 // The text of a term, empty where there is none.
@@ -39,7 +39,7 @@ fn text_of(alloc: Global, found: Option<Term>) -> Result<Vec<u8>, AllocError> {
 fn both_searches_find_the_first(rt: HostRuntime) -> Result<(), TextError> {
     let alloc = rt.alloc();
     for (size, props, texts, expected) in FOUND {
-        let leaves = leaves_of(alloc, texts)?;
+        let leaves = modules_of(alloc, texts)?;
         let expected = expected.unwrap_or("");
         let plain = text_of(alloc, first_plain(alloc, &leaves, props, *size)?)?;
         assert!(rt;
@@ -80,7 +80,7 @@ const SINGLE: &[Prop] = &[
 #[test]
 fn the_searches_agree(rt: HostRuntime) -> Result<(), TextError> {
     let alloc = rt.alloc();
-    let leaves = leaves_of(alloc, DEFAULT)?;
+    let leaves = modules_of(alloc, MODULES)?;
     for prop in SINGLE {
         for size in 1..4 {
             let plain = text_of(alloc, first_plain(alloc, &leaves, &[*prop], size)?)?;
@@ -95,7 +95,7 @@ fn the_searches_agree(rt: HostRuntime) -> Result<(), TextError> {
 #[test]
 fn none_elects_nobody_and_somebody(rt: HostRuntime) -> Result<(), TextError> {
     let alloc = rt.alloc();
-    let leaves = leaves_of(alloc, DEFAULT)?;
+    let leaves = modules_of(alloc, MODULES)?;
     let found = first_fast(alloc, &leaves, &[Prop::Ne, Prop::El], 9)?;
     assert!(rt; found.is_none());
     Ok(())

@@ -1,7 +1,7 @@
 // The lists of terms of small sizes.
-use crate::modules::leaves_of;
 use std::process::Abort;
 use vir_read::TextError;
+use vir_samples::modules_of;
 use vir_synth::terms;
 
 // Modules, a size, and the terms of that size in their order.
@@ -35,7 +35,7 @@ const LISTS: &[(&[&str], u32, &[&str])] = &[
 fn the_terms_of_a_size_stand_in_order(rt: HostRuntime) -> Result<(), TextError> {
     let alloc = rt.alloc();
     for (texts, size, expected) in LISTS {
-        let leaves = leaves_of(alloc, texts)?;
+        let leaves = modules_of(alloc, texts)?;
         let found = terms(alloc, &leaves, *size)?;
         assert!(rt; found.len() == expected.len() && found.is_empty() == expected.is_empty());
         for (i, text) in expected.iter().enumerate() {
@@ -65,7 +65,7 @@ const AT: &[(usize, &str)] = &[
 #[test]
 fn smaller_first_parts_stand_first(rt: HostRuntime) -> Result<(), TextError> {
     let alloc = rt.alloc();
-    let leaves = leaves_of(alloc, &["elect"])?;
+    let leaves = modules_of(alloc, &["elect"])?;
     let found = terms(alloc, &leaves, 4)?;
     assert!(rt; found.len() == 20);
     for (i, text) in AT {
@@ -76,9 +76,4 @@ fn smaller_first_parts_stand_first(rt: HostRuntime) -> Result<(), TextError> {
         assert!(rt; term.print(alloc)?.as_slice() == text.as_bytes(), "{text}");
     }
     Ok(())
-}
-
-#[test]
-fn the_law_can_be_called() {
-    vir_synth::laws::terms_are_composed();
 }

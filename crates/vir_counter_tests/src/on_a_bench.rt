@@ -1,4 +1,5 @@
 // A positional counter in a box, in the place of the eliminators of plurality.
+use crate::elections::election_of;
 use std::alloc::{AllocError, Global};
 use std::process::Abort;
 use std::test::Fail;
@@ -6,25 +7,11 @@ use vir_compile::compile;
 use vir_counter::{Counter, EliminatorCounter, FixedCounter, PositionalCounter};
 use vir_machine::{Bench, Machine};
 use vir_positional::{WeightForm, WeightRule};
-use vir_profile::{AltSet, Ballot, Entry, Profile, SocFile, Split};
+use vir_profile::{AltSet, Split};
+use vir_samples::DIVIDED;
 use vir_score::KeptScore;
 use vir_tables::Election;
 use vir_term::{Leaf, Score, Term};
-
-// How many voters cast which order: first 3 goes, and then 1.
-const VOTES: &[(u64, [u16; 3])] = &[(4, [1, 2, 3]), (3, [2, 3, 1]), (2, [3, 2, 1])];
-
-fn election_of(alloc: Global, votes: &[(u64, [u16; 3])]) -> Result<Election, Fail> {
-    let mut profile = Profile::new(alloc, 3);
-    for (weight, order) in votes {
-        let order = Ballot::from_slice(alloc, order)?;
-        let weight = *weight;
-        profile
-            .add(Entry { weight, order })
-            .map_err(|refused| refused.fault)?;
-    }
-    Ok(Election::of(alloc, SocFile::of(profile, Vec::new(alloc)))?)
-}
 
 // `seq(loop(1,min(plurality)),elect)`
 fn rounds(alloc: Global) -> Result<Term, AllocError> {
@@ -54,7 +41,7 @@ fn run_over(
 #[test]
 fn rounds_by_weights_are_rounds_by_the_score(rt: HostRuntime) -> Result<(), Fail> {
     let alloc = rt.alloc();
-    let election = election_of(alloc, VOTES)?;
+    let election = election_of(alloc, DIVIDED)?;
     let by_weights = PositionalCounter::new(WeightRule::new(WeightForm::Plurality));
     let mut bench = Bench::new(alloc);
     bench.push(Box::new(alloc, by_weights)?)?;

@@ -1,15 +1,14 @@
-// Scores and splits of a small election, worked out by hand.
+// Positional scores and splits of a small election, worked out by hand.
+use crate::elections::election_of;
 use std::alloc::Global;
 use std::process::Abort;
 use std::test::Fail;
 use vir_positional::{
     Elimination, Weighing, WeightForm, WeightRule, Weights, positional_score, positional_split,
 };
-use vir_profile::{AltSet, Ballot, Entry, Profile, SocFile};
+use vir_profile::AltSet;
+use vir_samples::DIVIDED;
 use vir_tables::Election;
-
-// How many voters cast which order.
-const VOTES: &[(u64, [u16; 3])] = &[(4, [1, 2, 3]), (3, [2, 3, 1]), (2, [3, 2, 1])];
 
 // A list of weights, an elimination, the scores, and who is rejected.
 type Row = (&'static [u64], Elimination, [i128; 3], [bool; 3]);
@@ -48,18 +47,6 @@ const LISTS: &[(&[u64], bool)] = &[
     (&[0], true),
 ];
 
-fn election_of(alloc: Global, votes: &[(u64, [u16; 3])]) -> Result<Election, Fail> {
-    let mut profile = Profile::new(alloc, 3);
-    for (weight, order) in votes {
-        let order = Ballot::from_slice(alloc, order)?;
-        let weight = *weight;
-        profile
-            .add(Entry { weight, order })
-            .map_err(|refused| refused.fault)?;
-    }
-    Ok(Election::of(alloc, SocFile::of(profile, Vec::new(alloc)))?)
-}
-
 // The rule of this list of weights.
 fn rule_of(rt: &impl Abort, alloc: Global, list: &[u64]) -> Result<WeightRule, Fail> {
     match Weights::of(Vec::from_slice(alloc, list)?) {
@@ -84,7 +71,7 @@ fn expect_row(rt: &impl Abort, election: &Election, rule: &WeightRule, row: &Row
 #[test]
 fn rows_of_scores_and_splits(rt: HostRuntime) -> Result<(), Fail> {
     let alloc = rt.alloc();
-    let election = election_of(alloc, VOTES)?;
+    let election = election_of(alloc, DIVIDED)?;
     for row in ROWS {
         let rule = rule_of(&rt, alloc, row.0)?;
         expect_row(&rt, &election, &rule, row);
