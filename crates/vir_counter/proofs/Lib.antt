@@ -1,1 +1,2 @@
 pub mod ServedSplits
+pub mod HeadToHead

@@ -1,5 +1,5 @@
 -- The split of a module that a positional counter serves.
-use Rattle.std.proofs.Common.{◌≡◌, ℕ, true, false, true≢false, List, sym, ap, ◌∙◌}
+use Rattle.std.proofs.Common.{◌≡◌, ℕ, true, true≢false, List, sym, ap, ◌∙◌}
 use Rattle.std.specs.FinSet as set
 use Rattle.vir_altset.specs.Sets.{Set, IsPart, all}
 use Rattle.vir_profile.specs.declared.ballot.Entry.{Entry}

@@ -6,8 +6,9 @@
 //! until it has come to the greatest `u64`. The four counters serve all modules between them, one
 //! `EliminatorCounter` for each score. A `PositionalCounter` may serve the eliminators of plurality or
 //! of Borda in the place of one of these, by the weights of places. Counters begin with no calls, and
-//! none of them takes memory. A `Box<dyn Counter>` is a counter as well. It stands on `vir_score`,
-//! `vir_positional`, `vir_mean` and `vir_tables`.
+//! none of them takes memory. Of two alternatives plurality elects whom more voters prefer to the other, so
+//! its counter asks for that pair alone. A `Box<dyn Counter>` is a counter as well. It stands on
+//! `vir_score`, `vir_positional`, `vir_mean` and `vir_tables`.
 #![tactic(auto)]
 
 mod boxed;
@@ -15,6 +16,7 @@ mod calls;
 mod counter;
 mod eliminator_counter;
 mod fixed_counter;
+mod head_to_head;
 mod order_counter;
 mod plurality_counter;
 mod positional_counter;

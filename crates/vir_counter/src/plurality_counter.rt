@@ -4,6 +4,7 @@ ghost use Rattle.vir_counter.specs.Kinds.{plurality_kinds};
 
 use crate::calls::one_more;
 use crate::counter::Counter;
+use crate::head_to_head::{split_of_two, two_of};
 use std::marker::Model;
 use vir_mean::elect_plurality_winners;
 use vir_profile::{AltSet, Split};
@@ -45,7 +46,10 @@ impl Counter for PluralityCounter {
 
     fn split(&mut self, leaf: &Leaf, election: &Election, domain: &AltSet) -> Split {
         self.calls = one_more(self.calls);
-        elect_plurality_winners(election, domain)
+        match two_of(domain) {
+            Some((x, y)) => split_of_two(election, domain, x, y),
+            None => elect_plurality_winners(election, domain),
+        }
     }
 
     fn calls(&self) -> u64 {

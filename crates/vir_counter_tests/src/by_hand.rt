@@ -5,9 +5,9 @@ use crate::elections::election_of;
 use std::alloc::Global;
 use std::process::Abort;
 use std::test::Fail;
-use vir_counter::{Counter, EliminatorCounter};
+use vir_counter::{Counter, EliminatorCounter, PluralityCounter};
 use vir_profile::{AltSet, Ballot, Entry, Profile, SocFile};
-use vir_samples::{CYCLE, DIVIDED};
+use vir_samples::{CYCLE, DIVIDED, Votes};
 use vir_score::{KeptScore, borda_score, plurality_score};
 use vir_tables::Election;
 use vir_term::{Leaf, Score};
@@ -67,5 +67,49 @@ fn rounds_go_by_the_ballots_that_are_left(rt: HostRuntime) -> Result<(), Fail> {
     let all = AltSet::all(cycle.alternatives());
     let third = counter.split(&round, &cycle, &all);
     assert!(rt; third.deferred.count() == 3 && counter.calls() == 3);
+    Ok(())
+}
+
+// The numbers up to 3 of this list.
+fn set_of(members: &[u16]) -> AltSet {
+    let mut set = AltSet::empty();
+    for x in members {
+        if *x >= 1 && *x <= 3 {
+            set.put(*x);
+        }
+    }
+    set
+}
+
+// Of these members plurality elects those.
+fn expect_elected(rt: &impl Abort, election: &Election, members: &[u16], elected: &[u16]) {
+    let all = AltSet::all(election.alternatives());
+    let asked = part(&all, &set_of(members));
+    let mut counter = PluralityCounter::new();
+    let split = counter.split(&Leaf::Plurality, election, &asked);
+    assert!(rt; split.elected.equals(&set_of(elected)) && split.deferred.count() == 0);
+    assert!(rt; split.rejected.equals(&asked.minus(&set_of(elected))) && counter.calls() == 1);
+}
+
+// Two parties of two voters each.
+const EVEN: Votes<'static> = &[(2, [1, 2, 3]), (2, [2, 1, 3])];
+
+// First places are 4, 3, 2; five prefer 2 to 1, five 3 to 1, and seven 2 to 3.
+const ELECTED: &[(Votes<'static>, &[u16], &[u16])] = &[
+    (DIVIDED, &[1, 2, 3], &[1]),
+    (DIVIDED, &[1, 2], &[2]),
+    (DIVIDED, &[1, 3], &[3]),
+    (DIVIDED, &[2, 3], &[2]),
+    (DIVIDED, &[3], &[3]),
+    (DIVIDED, &[], &[]),
+    (EVEN, &[1, 2], &[1, 2]),
+    (EVEN, &[2, 3], &[2]),
+];
+
+#[test]
+fn plurality_of_two_goes_by_who_is_preferred(rt: HostRuntime) -> Result<(), Fail> {
+    for (votes, members, elected) in ELECTED {
+        expect_elected(&rt, &election_of(rt.alloc(), *votes)?, members, elected);
+    }
     Ok(())
 }

@@ -1,6 +1,7 @@
 pub mod BlockWeights
 pub mod Cells
 pub mod FirstPlaces
+pub mod FirstOfTwo
 pub mod Lines
 pub mod RankedPairs
 pub mod Places

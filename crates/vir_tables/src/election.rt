@@ -1,5 +1,5 @@
 // Elections, as they are asked about voters and pairs.
-ghost use Rattle.std.specs.Prelude.{◌≡◌, true, length, slice_get, IfOk};
+ghost use Rattle.std.specs.Prelude.{◌≡◌, true, false, length, nat_eq, slice_get, IfOk};
 ghost use Rattle.std.specs.FinSet as set;
 ghost use Rattle.std.specs.Option.{option_copied};
 ghost use Rattle.vir_altset.specs.Sets.{all, limit, IsPart};
@@ -9,7 +9,7 @@ ghost use Rattle.vir_profile.specs.Profiles.{IsProfile, first_weight, pairwise_w
 ghost use Rattle.vir_profile.specs.SocFiles.{name_of};
 
 use crate::first_places::{first_weight_of, first_weights_of};
-use crate::pairs::pairwise_weight_of;
+use crate::pairs::{pairwise_weight_of, pairwise_weights_of};
 use crate::table::{fill, index};
 use std::alloc::{AllocError, Global};
 use std::marker::Model;
@@ -114,6 +114,20 @@ impl Election {
         match &self.table {
             Some(table) => table[index(profile.alternatives(), x, y)],
             None => pairwise_weight_of(profile.entries(), x, y),
+        }
+    }
+
+    /// How many voters put x before y, and how many y before x. It goes over the lines once where there is no table.
+    pub fn prefers_each(&self, x: u16, y: u16) -> (u64, u64)
+        requires first { set.contains (all self.now.profile.alternatives) x ≡ true }
+        requires second { set.contains (all self.now.profile.alternatives) y ≡ true }
+        requires apart { nat_eq x y ≡ false }
+        ensures { result ≡ (pairwise_weight self.now.profile.lines x y, pairwise_weight self.now.profile.lines y x) }
+    {
+        let profile = self.file.profile();
+        match &self.table {
+            Some(_) => (self.prefers(x, y), self.prefers(y, x)),
+            None => pairwise_weights_of(profile.entries(), x, y),
         }
     }
 

@@ -9,7 +9,8 @@
 //! in the lines of a block. Each pair is counted one way round by comparing places, which a processor does
 //! for many lines at once; the other way round it has what is left of the voters. Nothing else takes
 //! memory. First places among the members of a set stand in no table: they are added up line by line, by
-//! marks of the members. It stands on `vir_profile`, whose lines it goes over, and on `vir_mean`, whose
+//! marks of the members. Where two alternatives are asked about without a table, many places of a line are
+//! looked at together. It stands on `vir_profile`, whose lines it goes over, and on `vir_mean`, whose
 //! `Tally` it implements.
 #![tactic(auto)]
 

@@ -85,6 +85,31 @@ const PAIRS: &[(u16, u16, u64, bool)] = &[
     (3, 2, 2, false),
 ];
 
+// As many voters put the first before the second, and the second before the first.
+const EACH: &[(u16, u16, u64, u64)] = &[(1, 2, 4, 5), (3, 1, 5, 4), (2, 3, 7, 2)];
+
+#[tactic(auto, using(crate::proofs::RankedPairs::member_of_range))]
+fn expect_each(rt: &impl Abort, election: &Election) {
+    for (x, y, before, behind) in EACH {
+        assert!(rt; 1 <= *x && *x <= election.alternatives());
+        assert!(rt; 1 <= *y && *y <= election.alternatives() && *x != *y);
+        assert!(rt;
+            election.prefers_each(*x, *y) == (*before, *behind),
+            "{x} and {y}"
+        );
+    }
+}
+
+#[test]
+fn two_are_asked_about_at_once(rt: HostRuntime) -> Result<(), AllocError> {
+    expect_each(&rt, &election_of(&rt, rt.alloc(), 3, LINES)?);
+    expect_each(
+        &rt,
+        &Election::without_table(file_of(&rt, rt.alloc(), 3, LINES)?),
+    );
+    Ok(())
+}
+
 #[test]
 fn pairs_of_three_alternatives(rt: HostRuntime) -> Result<(), AllocError> {
     let election = election_of(&rt, rt.alloc(), 3, LINES)?;

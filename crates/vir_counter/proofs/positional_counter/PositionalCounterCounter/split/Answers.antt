@@ -1,4 +1,4 @@
-use Rattle.std.proofs.Common.{◌≡◌, ◌∙◌, true, ap, sym}
+use Rattle.std.proofs.Common.{◌≡◌, ◌∙◌, true, ap}
 use Rattle.vir_term.specs.Kinds.{kind_of}
 use Rattle.vir_counter.specs.Kinds.{has_kind}
 use Rattle.vir_counter.specs.PositionalKinds.{served_kinds}
