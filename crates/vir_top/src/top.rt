@@ -36,9 +36,8 @@ pub fn virage<S: Shelf, O: Sink, E: Sink>(
     // Of told files: the status is the one that the course asks for, 0 for a text and 1 for a denial that is so; or a
     // count rose, or memory was wanting.
     ensures due { (command : Command) (all : Files) → command_in words.now ≡ Some command
-        → (S.seen shelf.old).files ≡ Some all
-        → IsDueOfCommand (served_by (seen kinds made bench.old)) all command result
-        (faults_of (S.seen shelf.old) (O.seen out.old)) (faults_of (S.seen shelf.new) (O.seen out.new)) }
+        → (S.seen shelf.old).files ≡ Some all → IsDueOfCommand (served_by (seen kinds made bench.old)) all command
+        result (faults_of (S.seen shelf.old) (O.seen out.old)) (faults_of (S.seen shelf.new) (O.seen out.new)) }
     // Words that are no command.
     ensures usage { command_in words.now ≡ None → IsUsageDue (are_listed words.now) result }
     // The whole: there is an answer, that of the course that the words, the contents of the files and the bench come
