@@ -2,14 +2,13 @@
 ghost use Rattle.std.specs.Prelude.{◌≡◌, ◌≢◌, ℕ, List, None, Some, IfOk, OnErr, OnOk};
 ghost use Rattle.vir_machine.specs.Runs.{BenchView};
 ghost use Rattle.vir_machine.specs.Uses.{first_unserved};
-ghost use Rattle.vir_outside.specs.Faults.{Rose};
-ghost use Rattle.vir_outside.specs.Shelf.{Faulted, Files};
+ghost use Rattle.vir_outside.specs.Shelf.{Files};
 ghost use Rattle.vir_term.specs.Tree.{Tree};
 ghost use Rattle.vir_top.specs.Calls.{AnswersWords, Calls};
 ghost use Rattle.vir_top.specs.CommandCourses.{command_course};
 ghost use Rattle.vir_top.specs.Delivery.{Delivers};
 ghost use Rattle.vir_top.specs.Headline.{ReportPrinted};
-ghost use Rattle.vir_top.specs.Printed.{IsDue, IsUsageDue, Printed, told_contents};
+ghost use Rattle.vir_top.specs.Printed.{IsDueOfCommand, IsUsageDue, Printed, faults_of};
 ghost use Rattle.vir_words.specs.Command.{Command, are_listed, command_in, report};
 ghost use Rattle.vir_bench.specs.FullBench.{full_bench, full_kinds};
 
@@ -42,10 +41,9 @@ pub fn call_on_full_bench<S: Shelf, O: Sink, E: Sink>(
     ensures printed { IfOk result (λ status. (command : Command) → command_in words.now ≡ Some command → status ≡ 0
         → Printed (command_course full_kinds command) (S.seen shelf.old).files
         (O.seen out.old).written (O.seen out.new).written) }
-    ensures due { IfOk result (λ status. (command : Command) (all : Files)
-        → command_in words.now ≡ Some command → (S.seen shelf.old).files ≡ Some all
-        → IsDue (command_course full_kinds command (told_contents all)).end status
-        (Faulted (S.seen shelf.old) (S.seen shelf.new)) (Rose (O.seen out.old).faults (O.seen out.new).faults)) }
+    ensures due { IfOk result (λ status. (command : Command) (all : Files) → command_in words.now ≡ Some command
+        → (S.seen shelf.old).files ≡ Some all → IsDueOfCommand full_kinds all command status
+        (faults_of (S.seen shelf.old) (O.seen out.old)) (faults_of (S.seen shelf.new) (O.seen out.new))) }
     // Words that are no command.
     ensures usage { IfOk result (λ status. command_in words.now ≡ None → IsUsageDue (are_listed words.now) status) }
     // The whole, on a bench of such counters, none of which was called.

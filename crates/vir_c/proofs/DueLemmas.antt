@@ -45,7 +45,8 @@ of_reply (denies bytes) status is = inr is
 pub due_in_memory : (end : Result Wording Stop) (given : Result Answer Stop) (status : ℕ)
     (old new err_old err_new : SinkState) → old.faults ≡ 0
     → Delivers given status (λ (s : SinkState). sink_seen s) old new (λ (s : SinkState). sink_seen s) err_old err_new
-    → IsDue end status (Rose 0 0) (Rose old.faults new.faults) → IsDueInMemory end status
+    → IsDue end status (record { shelf = 0; out = old.faults }) (record { shelf = 0; out = new.faults })
+    → IsDueInMemory end status
 due_in_memory (Ok wording) given status old new err_old err_new zero d (inl (inl rose)) = absurd (none_rose rose)
 due_in_memory (Ok wording) given status old new err_old err_new zero d (inl (inr rose)) =
     where_rose given status old new err_old err_new zero d rose

@@ -16,7 +16,6 @@ use Rattle.vir_files.specs.Readings.{RuleProfile, rule_and_profile_of, rule_prof
 use Rattle.vir_files.specs.Values.{SeesRuleProfile}
 use Rattle.vir_files.specs.declared.two_files.RuleAndProfile.{RuleAndProfile}
 use Rattle.vir_outside.specs.Shelf.{ShelfView}
-use Rattle.vir_profile.specs.SocFiles.{File}
 use Rattle.vir_refute.specs.Cases.{Case}
 use Rattle.vir_term.specs.declared.leaf.Leaf.{Leaf}
 use Rattle.vir_term.specs.declared.leaf.LeafKind.{LeafKind}

@@ -19,7 +19,7 @@ use Rattle.vir_top.specs.CommandCourses.{command_course, rule_profile_course}
 use Rattle.vir_top.specs.Delivery.{Delivers}
 use Rattle.vir_top.specs.Headline.{ReportPrinted}
 use Rattle.vir_top.specs.Printed.{Printed}
-use Rattle.vir_counting.specs.Counting.{counting_course, report_course}
+use Rattle.vir_counting.specs.Counting.{counting_course}
 
 -- a course that leads to a value does so by the first one's value
 and_then_ok : {A B : Type 0} (first : Course A) (next : A → Course B) (b : B) → (and_then first next).end ≡ Ok b

@@ -25,7 +25,6 @@ use Rattle.vir_machine.specs.Uses.{first_unserved, or_else}
 use Rattle.vir_outside.specs.Shelf.{Faulted, ShelfView}
 use Rattle.vir_outside.specs.Sink.{SinkView}
 use Rattle.vir_profile.specs.SocFiles.{File}
-use Rattle.vir_refute.specs.Cases.{one}
 use Rattle.vir_term.specs.declared.leaf.Leaf.{Leaf}
 use Rattle.vir_term.specs.declared.leaf.LeafKind.{LeafKind}
 use Rattle.vir_term.specs.Tree.{Tree}

@@ -13,14 +13,14 @@ use Rattle.vir_course.specs.declared.stop.Stop.{Stop}
 use Rattle.vir_course.specs.declared.stop.Stop.TheVariants as stop
 use Rattle.vir_files.specs.Contents.{AreContents, Contents}
 use Rattle.vir_files.specs.Performs.{Performs}
-use Rattle.vir_outside.specs.Faults.{Rose}
 use Rattle.vir_outside.specs.Sink.{SinkView}
 use Rattle.vir_outside.specs.Shelf.{Faulted, Files, ShelfView}
 use Rattle.vir_top.specs.Calls.{AnswersWords, Calls, IsUsage}
 use Rattle.vir_words.specs.Command.{Command}
 use Rattle.vir_top.specs.CommandCourses.{command_course}
 use Rattle.vir_top.specs.Delivery.{Delivers, stop_status}
-use Rattle.vir_top.specs.Printed.{HasStatus, IsDue, IsUsageDue, Printed, told_contents}
+use Rattle.vir_top.specs.Printed.{FaultCounts, IsDue, IsUsageDue, Printed, faults_of}
+use Rattle.vir_top.specs.Printed.{told_contents}
 
 -- no reason to stop has status 0
 never_printed : (reason : Stop) → stop_status reason ≡ 0 → ⊥
@@ -83,36 +83,39 @@ module _ {S O E : Type 0} (course : Contents → Course Wording) (seen : S → S
       }
 
   -- ---- what is due
-  abbrev write_rose : Type 0
-  write_rose = Rose (out old).faults (out new).faults
+  abbrev before_it : FaultCounts
+  before_it = faults_of (seen shelf) (out old)
+
+  abbrev after_it : FaultCounts
+  after_it = faults_of (seen left) (out new)
 
   due_told : (given : Answer) (wording : Wording) → IsWorded wording (reply_of given) → DeliversAll (Ok given)
-      → IsDue (Ok wording) status read_rose write_rose
+      → IsDue (Ok wording) status before_it after_it
   due_told given wording is (inl w) =
       inr (inl (record { reply = reply_of given; worded = is; status_is = w.status_is }))
   due_told given wording is (inr b) = inl (inr b.failed)
 
   -- of an end that steps lead to
   due_stop : (end : Result Wording Stop) (reason : Stop) → end ≡ Err reason → DeliversAll (Err reason)
-      → IsDue end status read_rose write_rose
+      → IsDue end status before_it after_it
   due_stop (Ok wording) reason e d = absurd cc
   due_stop (Err other) reason e d = let same : reason ≡ other = cc in inr (inl (d.status_is ∙ ap stop_status same))
 
-  due_memory : (end : Result Wording Stop) → status ≡ 7 → IsDue end status read_rose write_rose
+  due_memory : (end : Result Wording Stop) → status ≡ 7 → IsDue end status before_it after_it
   due_memory (Ok wording) is = inr (inr is)
   due_memory (Err reason) is = inr (inr is)
 
-  due_rose : (end : Result Wording Stop) → read_rose → IsDue end status read_rose write_rose
+  due_rose : (end : Result Wording Stop) → read_rose → IsDue end status before_it after_it
   due_rose (Ok wording) rose = inl (inl rose)
   due_rose (Err reason) rose = inl rose
 
   due_ok : (end : Result Wording Stop) (wording : Wording) (given : Answer) → end ≡ Ok wording
-      → IsWorded wording (reply_of given) → DeliversAll (Ok given) → IsDue end status read_rose write_rose
+      → IsWorded wording (reply_of given) → DeliversAll (Ok given) → IsDue end status before_it after_it
   due_ok end wording given e is d =
-      subst (λ (r : Result Wording Stop). IsDue r status read_rose write_rose) (sym e) (due_told given wording is d)
+      subst (λ (r : Result Wording Stop). IsDue r status before_it after_it) (sym e) (due_told given wording is d)
 
   due : (c : Course Wording) (made : List Step) (given : Result Answer Stop) → Follows Tells read_rose c made given
-      → DeliversAll given → IsDue c.end status read_rose write_rose
+      → DeliversAll given → IsDue c.end status before_it after_it
   due c made (Ok given) f d = due_ok c.end f.value given f.end_is f.sees d
   due c made (Err stop.Usage) f d = absurd f
   due c made (Err stop.ReadFault) (inl (rose, begins)) d = due_rose c.end rose
@@ -132,11 +135,11 @@ module _ {S O E : Type 0} (course : Contents → Course Wording) (seen : S → S
 
   pub due_of_told : (all : Files) (given : Result Answer Stop) → (seen shelf).files ≡ Some all → PerformsIt given
       → DeliversAll given
-      → IsDue (course (told_contents all)).end status read_rose write_rose
+      → IsDue (course (told_contents all)).end status before_it after_it
   due_of_told all given is p d =
-      let here : IsDue (course p.contents).end status read_rose write_rose = due (course p.contents) p.made given
+      let here : IsDue (course p.contents).end status before_it after_it = due (course p.contents) p.made given
       p.follows d in
-      subst (λ (contents : Contents). IsDue (course contents).end status read_rose write_rose)
+      subst (λ (contents : Contents). IsDue (course contents).end status before_it after_it)
       (same_contents all p.contents is p.are_contents) here
 
 -- ---- of a call
@@ -175,7 +178,7 @@ module _ {S O E : Type 0} (listed : Bool) (words : Option Command) (seen : S →
 
     pub call_due : (all : Files) → (seen shelf).files ≡ Some all
         → IsDue (command_course (served_by before) command (told_contents all)).end status
-        (Faulted (seen shelf) (seen left)) (Rose (out old).faults (out new).faults)
+        (faults_of (seen shelf) (out old)) (faults_of (seen left) (out new))
     call_due all is =
         due_of_told (command_course (served_by before) command) seen shelf left before after status out old new err
         err_old err_new all calls.answer is performs calls.delivers

@@ -1,31 +1,86 @@
 -- What follows of a call with told files, status by status.
-use Rattle.std.specs.Prelude.{◌≡◌, ◌⊎◌, Bool, IsTrue, ℕ, List, None, Result, Ok, Err}
+use Rattle.std.specs.Prelude.{◌≡◌, ◌⊎◌, Bool, IsTrue, ℕ, List, None, Some, Result, Ok, Err}
 use Rattle.std.specs.declared.option.Option.{Option}
 use Rattle.std.specs.Io.KnownBytes.{Appends}
+use Rattle.vir_cert.specs.Certs.{Cert}
 use Rattle.vir_course.specs.Courses.{Course}
 use Rattle.vir_course.specs.Wordings.{IsWorded, Reply, Wording, prints}
 use Rattle.vir_course.specs.declared.stop.Stop.{Stop}
+use Rattle.vir_course.specs.declared.stop.Stop.TheVariants.{ProfileRefused, TextRefused}
 use Rattle.vir_files.specs.Contents.{AreContents, Contents}
-use Rattle.vir_files.specs.Readings.{profile_at, rule_at}
+use Rattle.vir_files.specs.Files.{certificates, judge, profiles, rules}
 use Rattle.vir_machine.specs.Uses.{first_unserved}
-use Rattle.vir_outside.specs.Shelf.{Files, content_of}
+use Rattle.vir_outside.specs.Faults.{Rose}
+use Rattle.vir_outside.specs.Shelf.{Files, ShelfView, content_of}
+use Rattle.vir_outside.specs.Sink.{SinkView}
 use Rattle.vir_profile.specs.SocFiles.{File}
+use Rattle.vir_read.specs.declared.text_fault.TextFault.{TextFault}
+use Rattle.vir_rules.specs.Claims.{of}
+use Rattle.vir_rules.specs.Derivations.{Valid}
+use Rattle.vir_soc.specs.declared.fault.SocFault.{SocFault}
+use Rattle.vir_term.specs.declared.leaf.Leaf.{Leaf}
 use Rattle.vir_term.specs.declared.leaf.LeafKind.{LeafKind}
 use Rattle.vir_term.specs.Tree.{Tree}
+use Rattle.vir_top.specs.CommandCourses.{command_course}
 use Rattle.vir_top.specs.Delivery.{reply_status, stop_status}
+use Rattle.vir_words.specs.Command.{Command}
 
 -- the contents that a shelf with these files has
 abbrev pub told_contents : Files → Contents
 told_contents all place name = content_of all name
 
--- Told files have this rule and this profile, and the bench serves each module of the rule.
+-- ---- what told files say under a name
+abbrev pub SaysRule : Files → List ℕ → Tree → Type 0
+SaysRule all name term = judge rules (content_of all name) ≡ Ok term
+
+abbrev pub SaysProfile : Files → List ℕ → File → Type 0
+SaysProfile all name file = judge profiles (content_of all name) ≡ Ok file
+
+abbrev pub SaysCert : Files → List ℕ → Cert → Type 0
+SaysCert all name cert = judge certificates (content_of all name) ≡ Ok cert
+
+-- The rule file has a fault.
+abbrev pub RefusesRule : Files → List ℕ → Type 0
+RefusesRule all name = (fault : TextFault) × (judge rules (content_of all name) ≡ Err (TextRefused fault))
+
+-- The profile has a fault.
+abbrev pub RefusesProfile : Files → List ℕ → Type 0
+RefusesProfile all name = (fault : SocFault) × (judge profiles (content_of all name) ≡ Err (ProfileRefused fault))
+
+-- There is no file of this name.
+abbrev pub IsMissing : Files → List ℕ → Type 0
+IsMissing all name = content_of all name ≡ None
+
+-- The file is a certificate with a valid derivation of what it claims.
+pub record HasValidCert (all : Files) (name : List ℕ) : Type 0 where
+  pub cert : Cert
+  pub is_cert : SaysCert all name cert
+  pub valid : Valid cert.derivation (of cert.prop cert.term)
+
+-- The file is a certificate, and its derivation isn't valid.
+pub record HasInvalidCert (all : Files) (name : List ℕ) : Type 0 where
+  pub cert : Cert
+  pub is_cert : SaysCert all name cert
+  pub not_valid : Valid cert.derivation (of cert.prop cert.term) → ⊥
+
+-- The files are a rule and a profile, and the bench serves each module of the rule.
 pub record Accepts (kinds : List (List LeafKind)) (all : Files) (rule profile : List ℕ) : Type 0 where
   pub term : Tree
-  pub is_rule : (rule_at (told_contents all) 0 rule).end ≡ Ok term
+  pub is_rule : SaysRule all rule term
   pub file : File
-  pub is_profile : (profile_at (told_contents all) 1 profile).end ≡ Ok file
+  pub is_profile : SaysProfile all profile file
   pub is_served : first_unserved kinds term ≡ None
 
+-- The files are a rule and a profile, and the bench doesn't serve this module of the rule.
+pub record LacksCounter (kinds : List (List LeafKind)) (all : Files) (rule profile : List ℕ) : Type 0 where
+  pub term : Tree
+  pub is_rule : SaysRule all rule term
+  pub file : File
+  pub is_profile : SaysProfile all profile file
+  pub unserved : Leaf
+  pub is_unserved : first_unserved kinds term ≡ Some unserved
+
+-- ---- status 0, and the others
 -- With status 0 a text is appended, that which the course of some contents ends with; and what it affirms is so.
 pub record Printed (course : Contents → Course Wording) (files : Option Files) (old new : Option (List ℕ)) : Type 0
   where
@@ -44,10 +99,35 @@ pub record HasStatus (wording : Wording) (status : ℕ) : Type 0 where
   pub worded : IsWorded wording reply
   pub status_is : status ≡ reply_status reply
 
--- The status that the end of a course asks for comes, or a count of faults rose, or memory was wanting.
-abbrev pub IsDue : Result Wording Stop → ℕ → Type 0 → Type 0 → Type 0
-IsDue (Ok wording) status read_rose write_rose = (read_rose ⊎ write_rose) ⊎ (HasStatus wording status ⊎ (status ≡ 7))
-IsDue (Err reason) status read_rose write_rose = read_rose ⊎ ((status ≡ stop_status reason) ⊎ (status ≡ 7))
+-- how many faults a shelf and an output have counted
+pub record FaultCounts : Type 0 where
+  pub shelf : ℕ
+  pub out : ℕ
+
+-- those of a shelf and an output that are seen so
+abbrev pub faults_of : ShelfView → SinkView → FaultCounts
+faults_of shelf out = record { shelf = shelf.faults; out = out.faults }
+
+-- The status that the end of a course asks for comes, or memory was wanting, or a count of faults rose: that of the
+-- shelf, or, where there was a text to write, that of the output.
+abbrev pub IsDue : Result Wording Stop → ℕ → FaultCounts → FaultCounts → Type 0
+IsDue (Ok wording) status before after =
+    (Rose before.shelf after.shelf ⊎ Rose before.out after.out) ⊎ (HasStatus wording status ⊎ (status ≡ 7))
+IsDue (Err reason) status before after =
+    Rose before.shelf after.shelf ⊎ ((status ≡ stop_status reason) ⊎ (status ≡ 7))
+
+-- The status is due of a command with these files, on a bench that serves these kinds.
+abbrev pub IsDueOfCommand : List (List LeafKind) → Files → Command → ℕ → FaultCounts → FaultCounts → Type 0
+IsDueOfCommand kinds all command status before after =
+    IsDue (command_course kinds command (told_contents all)).end status before after
+
+-- It is, and no count rose.
+pub record IsDueWithoutFault (kinds : List (List LeafKind)) (all : Files) (command : Command) (status : ℕ) : Type 0
+  where
+    pub before : FaultCounts
+    pub after : FaultCounts
+    pub no_fault : Rose before.shelf after.shelf ⊎ Rose before.out after.out → ⊥
+    pub due : IsDueOfCommand kinds all command status before after
 
 -- The status of words that are no command; where they are kept in lists, memory may have been wanting.
 abbrev pub IsUsageDue : Bool → ℕ → Type 0

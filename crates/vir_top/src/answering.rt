@@ -62,8 +62,7 @@ fn answer_rule_and_profile<S: Shelf>(
     work: RuleProfileWork,
 ) -> Result<Answer, Stop>
     requires { IsRuleProfileWork work }
-    ensures { Performs
-        (command_course (served_by (seen kinds made bench.old))
+    ensures { Performs (command_course (served_by (seen kinds made bench.old))
         (on_rule_and_profile rule_name.now profile_name.now work)) Tells
         S.seen shelf.old shelf.new (seen kinds made bench.old) (seen kinds made bench.new) result }
 {

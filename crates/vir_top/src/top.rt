@@ -1,14 +1,13 @@
 // The whole program over what is handed in: the top call, its headline first.
 ghost use Rattle.std.specs.Prelude.{◌≡◌, ℕ, List, None, Some};
 ghost use Rattle.vir_machine.specs.Runs.{seen, served_by};
-ghost use Rattle.vir_outside.specs.Faults.{Rose};
-ghost use Rattle.vir_outside.specs.Shelf.{Faulted, Files};
+ghost use Rattle.vir_outside.specs.Shelf.{Files};
 ghost use Rattle.vir_top.specs.Calls.{AnswersWords, Calls};
 ghost use Rattle.vir_words.specs.Command.{Command, are_listed, command_in, report};
 ghost use Rattle.vir_top.specs.CommandCourses.{command_course};
 ghost use Rattle.vir_top.specs.Delivery.{Delivers};
 ghost use Rattle.vir_top.specs.Headline.{ReportPrinted};
-ghost use Rattle.vir_top.specs.Printed.{IsDue, IsUsageDue, Printed, told_contents};
+ghost use Rattle.vir_top.specs.Printed.{IsDueOfCommand, IsUsageDue, Printed, faults_of};
 
 use crate::answering::answer;
 use crate::delivery::deliver;
@@ -36,18 +35,16 @@ pub fn virage<S: Shelf, O: Sink, E: Sink>(
         (O.seen out.old).written (O.seen out.new).written }
     // Of told files: the status is the one that the course asks for, 0 for a text and 1 for a denial that is so; or a
     // count rose, or memory was wanting.
-    ensures due { (command : Command) (all : Files)
-        → command_in words.now ≡ Some command → (S.seen shelf.old).files ≡ Some all
-        → IsDue (command_course (served_by (seen kinds made bench.old)) command (told_contents all)).end result
-        (Faulted (S.seen shelf.old) (S.seen shelf.new)) (Rose (O.seen out.old).faults (O.seen out.new).faults) }
+    ensures due { (command : Command) (all : Files) → command_in words.now ≡ Some command
+        → (S.seen shelf.old).files ≡ Some all → IsDueOfCommand (served_by (seen kinds made bench.old)) all command
+        result (faults_of (S.seen shelf.old) (O.seen out.old)) (faults_of (S.seen shelf.new) (O.seen out.new)) }
     // Words that are no command.
     ensures usage { command_in words.now ≡ None → IsUsageDue (are_listed words.now) result }
     // The whole: there is an answer, that of the course that the words, the contents of the files and the bench come
     // to, and it is delivered. The shelf is asked for the files of that course alone, its files stay, and no count
     // falls. All clauses above follow.
-    ensures calls { Calls
-        (AnswersWords (are_listed words.now) (command_in words.now) S.seen shelf.old shelf.new
-        (seen kinds made bench.old) (seen kinds made bench.new))
+    ensures calls { Calls (AnswersWords (are_listed words.now) (command_in words.now)
+        S.seen shelf.old shelf.new (seen kinds made bench.old) (seen kinds made bench.new))
         (λ answer. Delivers answer result O.seen out.old out.new E.seen err.old err.new) }
 {
     let answer = answer(alloc, words, shelf, bench);

@@ -18,6 +18,8 @@ mod explanations;
 #[cfg(test)]
 mod positions;
 #[cfg(test)]
+mod refusals;
+#[cfg(test)]
 mod reports;
 #[cfg(test)]
 mod rows;

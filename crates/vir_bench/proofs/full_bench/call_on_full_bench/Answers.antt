@@ -1,15 +1,13 @@
 use Rattle.std.proofs.Common.{◌≡◌, ℕ, [], refl, ap, ◌∙◌, subst}
 use Rattle.vir_machine.specs.Runs.{BenchView, served_by}
 use Rattle.vir_machine.specs.Bench.{views}
-use Rattle.vir_outside.specs.Faults.{Rose}
-use Rattle.vir_outside.specs.Shelf.{Faulted}
 use Rattle.vir_term.specs.declared.score.Score.{Score}
 use Rattle.vir_term.specs.declared.score.Score.TheVariants as score
 use Rattle.vir_top.proofs.ServedLemmas.{never_eight}
 use Rattle.vir_top.specs.Calls.{AnswersWords, Calls}
 use Rattle.vir_top.specs.CommandCourses.{command_course}
 use Rattle.vir_top.specs.Delivery.{Delivers}
-use Rattle.vir_top.specs.Printed.{IsDue, Printed, told_contents}
+use Rattle.vir_top.specs.Printed.{IsDueOfCommand, Printed, faults_of}
 use Rattle.vir_words.specs.Command.{are_listed, command_in}
 use Rattle.vir_bench.specs.FullBench.{full_bench}
 use Rattle.vir_bench.proofs.FullBenchLemmas.{all_full, is_full, pushed}
@@ -105,8 +103,7 @@ returns-clause-printed g c = λ command asks is.
 
 pub returns-clause-due : goal.returns-clause-due
 returns-clause-due g c = λ command all asks told.
-    subst (λ (bench : BenchView). IsDue (command_course (served_by bench) command (told_contents all)).end
-    c.virage.result
-    (Faulted (g.S.Shelf.seen c.args.shelf.now) (g.S.Shelf.seen c.virage.new.shelf))
-    (Rose (g.O.Sink.seen c.args.out.now).faults (g.O.Sink.seen c.virage.new.out).faults)) (full g c)
+    subst (λ (bench : BenchView). IsDueOfCommand (served_by bench) all command c.virage.result
+    (faults_of (g.S.Shelf.seen c.args.shelf.now) (g.O.Sink.seen c.args.out.now))
+    (faults_of (g.S.Shelf.seen c.virage.new.shelf) (g.O.Sink.seen c.virage.new.out))) (full g c)
     (c.virage.ensures.due command all asks told)

@@ -1,4 +1,4 @@
-use Rattle.std.proofs.Common.{Some, refl, ap, map, string_bytes, ◌∙◌}
+use Rattle.std.proofs.Common.{refl, ap, map, string_bytes, ◌∙◌}
 use Rattle.vir_c.proofs.DueLemmas.{due_in_memory, follows_told, is_answered, none_rose, usage_due}
 use Rattle.vir_c.proofs.TextLemmas.{are_texts}
 use Rattle.vir_outside.specs.Memory.{ShelfState, SinkState}
