@@ -91,10 +91,9 @@ fn add_profile<S: Shelf>(
     requires served { all_served (served_by (seen kinds made bench.old)) (tree compiled.old.rule.now) ≡ true }
     requires room { lines.old.profiles < 2 ^ 64 - 1 }
     requires few { lines.old.refused ≤ lines.old.profiles }
-    ensures performs { (place : ℕ) → Performs
-        (λ contents. profile_counted contents place (tree compiled.old.rule.now) name.now)
-        (λ one done. IsLineAdded (tree compiled.old.rule.now) one lines.old lines.new)
-        S.seen shelf.old shelf.new (seen kinds made bench.old) (seen kinds made bench.new) result }
+    ensures performs { (place : ℕ) → Performs (λ contents. profile_counted contents place
+        (tree compiled.old.rule.now) name.now) (λ one done. IsLineAdded (tree compiled.old.rule.now) one lines.old
+        lines.new) S.seen shelf.old shelf.new (seen kinds made bench.old) (seen kinds made bench.new) result }
     ensures more { OnOk result (IsOneMore lines.old lines.new) }
     ensures served { OnOk result (served_by (seen kinds made bench.new) ≡ served_by (seen kinds made bench.old)) }
     ensures same { compiled.new.rule.now ≡ compiled.old.rule.now }

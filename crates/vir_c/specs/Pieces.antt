@@ -1,7 +1,8 @@
 -- What a caller hands in: bytes that stand one behind another, and how many there are of each.
 -- (The program's promises don't stand on this file.)
-use Rattle.std.specs.Prelude.{ℕ, List, [], ◌∷◌, take, drop}
+use Rattle.std.specs.Prelude.{ℕ, List, [], ◌∷◌, None, take, drop}
 use Rattle.vir_c.specs.declared.sizes.FileSizes.{FileSizes}
+use Rattle.vir_outside.specs.Memory.{ShelfState}
 use Rattle.vir_outside.specs.Shelf.{Files}
 
 -- the pieces of these sizes, one behind another; where the bytes end before, so do the pieces
@@ -15,3 +16,7 @@ files_of [] bytes = []
 files_of (size ∷ sizes) bytes =
     (take size.name bytes, take size.content (drop size.name bytes))
     ∷ files_of sizes (drop size.content (drop size.name bytes))
+
+-- a shelf with these files, of which nothing was asked for yet
+abbrev pub fresh_shelf : Files → ShelfState
+fresh_shelf files = record { files = files; failing = []; calls = 0; faults = 0; asked = []; rest = None }

@@ -1,9 +1,9 @@
 // The words and the files that stand one behind another in bytes of the caller's.
-ghost use Rattle.std.specs.Prelude.{◌≡◌, [], ◌∷◌, ◌++◌, None, map, string_bytes, take, drop, IfOk, OnOk};
+ghost use Rattle.std.specs.Prelude.{◌≡◌, [], ◌∷◌, ◌++◌, map, string_bytes, take, drop, IfOk, OnOk};
 ghost use Rattle.std.specs.Prelude.{ℕ, List, All, Err};
 ghost use Rattle.std.specs.Str.{IsUtf8};
 ghost use Rattle.vir_c.specs.declared.pieces.Unread.TheVariants.{NotText};
-ghost use Rattle.vir_c.specs.Pieces.{files_of, pieces};
+ghost use Rattle.vir_c.specs.Pieces.{files_of, fresh_shelf, pieces};
 
 use crate::FileSizes;
 use std::alloc::{AllocError, Global};
@@ -65,15 +65,7 @@ pub fn words_of(alloc: Global, sizes: &[usize], bytes: &[u8]) -> Result<Vec<Stri
 
 /// A shelf of the files of these sizes.
 pub fn shelf_of(alloc: Global, sizes: &[FileSizes], bytes: &[u8]) -> Result<MemoryShelf, Unread>
-    ensures shelf { IfOk result (λ shelf. shelf
-        ≡ record {
-          files = files_of sizes.now bytes.now;
-          failing = [];
-          calls = 0;
-          faults = 0;
-          asked = [];
-          rest = None;
-        }) }
+    ensures shelf { IfOk result (λ shelf. shelf ≡ fresh_shelf (files_of sizes.now bytes.now)) }
     ensures not_text { result ≡ Err NotText
         → ¬ (All (λ (file : List ℕ × List ℕ). IsUtf8 file.0) (files_of sizes.now bytes.now)) }
 {

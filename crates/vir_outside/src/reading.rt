@@ -46,13 +46,10 @@ pub fn read_whole<S: Shelf>(
     // Where the files are told, the name decides the answer, unless a count rose or memory is wanted.
     ensures missing { Lacks (S.seen shelf.old).files name.now → IsErrOf result ReadStop.Fault }
     ensures longer { IfSome (told_content (S.seen shelf.old).files name.now) (λ bytes. limit < length bytes
-        → IsErrOf result ReadStop.TooLong
-        ⊎ Faulted (S.seen shelf.old) (S.seen shelf.new)
+        → IsErrOf result ReadStop.TooLong ⊎ Faulted (S.seen shelf.old) (S.seen shelf.new)
         ⊎ IsErrOf result ReadStop.Memory) }
     ensures completes { IfSome (told_content (S.seen shelf.old).files name.now) (λ bytes. length bytes ≤ limit
-        → IsOk result
-        ⊎ Faulted (S.seen shelf.old) (S.seen shelf.new)
-        ⊎ IsErrOf result ReadStop.Memory) }
+        → IsOk result ⊎ Faulted (S.seen shelf.old) (S.seen shelf.new) ⊎ IsErrOf result ReadStop.Memory) }
 
     // What the call leaves.
     ensures selected { IsErrOf result ReadStop.Fault ⊎ IsTrue (S.seen shelf.new).selected }
