@@ -3,7 +3,9 @@
 import importlib.util
 import io
 import itertools
+import tempfile
 import unittest
+from pathlib import Path
 from types import ModuleType
 from typing import Optional
 
@@ -141,6 +143,22 @@ class Searches(unittest.TestCase):
         progress = face.Progress(io.StringIO())
         progress.tell(1, 2)
         progress.end()
+
+    def test_no_file_is_overwritten(self) -> None:
+        face = _face("counterexample")
+        other = virage.Profile.of([(1, [1, 2])])
+        with tempfile.TemporaryDirectory() as room:
+            name = str(Path(room, face.stem("rules/borda.vir", "defers(2)")))
+            for profiles, files in (
+                ([VOTES], [".soc"]),
+                ([VOTES], [".soc"]),
+                ([other, VOTES], [".2.soc", ".2.lifted.soc"]),
+                ([VOTES, other], [".soc", ".lifted.soc"]),
+                ([VOTES, VOTES], [".3.soc", ".3.lifted.soc"]),
+            ):
+                written = face.written(name, profiles)
+                self.assertEqual(written, [f"{room}/borda.defers2{file}" for file in files])
+                self.assertEqual([Path(file).read_bytes() for file in written], [one.text() for one in profiles])
 
 
 class Maps(unittest.TestCase):

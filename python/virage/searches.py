@@ -108,6 +108,13 @@ class Search:
             self.program = _for_many_calls()
 
     @property
+    def means(self) -> str:
+        """By what the cases are judged, in words."""
+        if isinstance(self.program, Program):
+            return f"a process of {self.program.path} each"
+        return f"the {self.program}, in this process"
+
+    @property
     def word(self) -> str:
         """The property without its number."""
         return self.property.partition("(")[0]
