@@ -25,12 +25,9 @@ from .commands import count, refute
 from .engines import Engine, engine
 from .profiles import Profile, RuleLike
 from .program import Program
+from .rules import OF_ELECTED
+from .rules import ON_LIFTS as ON_LIFTS
 from .terms import Term
-
-# the properties that speak of an alternative that is lifted: of an elected one, or of a deferred one
-OF_ELECTED = ("imono", "mono")
-OF_DEFERRED = ("dli", "dimono", "dmono")
-ON_LIFTS = OF_ELECTED + OF_DEFERRED
 
 Progress = Callable[[int, int], None]
 
