@@ -2,6 +2,7 @@
 # file, and set `tables`, the folder of the tables beside it, `called`, how they are called, and `place_tool`, the tool
 # that shows a place of a file.
 . "$tables/told.sh"
+. "$tables/places.sh"
 
 say() {
   echo "virage: $1" >&2

@@ -55,6 +55,8 @@ def _property_hints(command: str, given: Sequence[str]) -> Iterator[str]:
     for part in given:
         if part in _NUMBERED:
             yield f": {part} has a number, as {part}(1)"
+        elif "condorcet" in part.lower():
+            yield " (is cc meant?)"
         elif part.partition("(")[0] not in table().properties:
             yield _meant(part.strip(), [*table().properties])
         elif command == "refute" and part in ON_LIFTS:
@@ -81,7 +83,9 @@ def nearest(word: str, known: Sequence[str]) -> Optional[str]:
 
 
 def _away(word: str, other: str) -> int:
-    """How many letters are put in, left out or changed; 1 where one begins with the other."""
+    """How many letters are put in, left out or changed; at most 1 where one begins with the other."""
+    if word == other:
+        return 0
     if not word or len(word) > 40:
         return 40
     if other.startswith(word) or (len(other) > 3 and word.startswith(other)):
