@@ -176,6 +176,14 @@ class Maps(unittest.TestCase):
         self.assertEqual((made.cells["mono"].kind, made.cells["mono"].why), ("open", "none of 2 cases violates it"))
         self.assertIn("mono", ON_LIFTS)
 
+    def test_what_is_open_may_be_known(self) -> None:
+        face = _face("map")
+        said = face.of_open(virage.map(rule("copeland"), cases=1))
+        self.assertRegex(said, r"\Alaws of docs/KNOWN.md may speak of what is open: .*\bdli\b.*\n.* has dli and dmono\n\Z")
+        self.assertEqual(face.of_open(virage.PropertyMap(virage.Term.read("elect"), {})), "")
+        self.assertTrue(face.ends_in_elect(virage.Term.read("seq(defer,seq(defer,elect))")))
+        self.assertFalse(face.ends_in_elect(virage.Term.read("par(defer,elect)")))
+
     def test_it_is_a_table_in_a_notebook(self) -> None:
         made = virage.map(rule("plurality"), cases=2)
         text = made._repr_html_()
