@@ -234,6 +234,9 @@ say_refused_profile() {
     say "'$file' looks like a rule file, and stands where a profile is wanted"
     return
   fi
-  shown=$(wrong_in_line "$kind" "$file" "$number")
-  if [ -n "$shown" ]; then say_quoted "$shown"; fi
+  case $kind in
+    Short | Repeated | BadEntry)
+      shown=$(wrong_in_line "$kind" "$file" "$number")
+      if [ -n "$shown" ]; then say_quoted "$shown"; fi ;;
+  esac
 }
