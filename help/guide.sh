@@ -2,6 +2,7 @@
 # file, and set `tables`, the folder of the tables beside it, `called`, how they are called, and `place_tool`, the tool
 # that shows a place of a file.
 . "$tables/told.sh"
+. "$tables/places.sh"
 
 say() {
   echo "virage: $1" >&2
@@ -46,11 +47,44 @@ tell_word() {
   printf '  %-14s%s%s\n' "${row[word]}" "${row[is]}" "${row[ending]:+ (*.${row[ending]})}"
 }
 
+# Prints mdoc text as a paragraph of at most 80 columns: literals between quotes, punctuation behind its word.
+plain_text() {
+  awk '
+    function put(word) {
+      if (line == "") line = word
+      else if (length(line) + 1 + length(word) <= 80) line = line " " word
+      else { print line; line = word }
+    }
+    {
+      first = 1; last = NF; left = right = quote = ""
+      if ($1 ~ /^[.][A-Z][a-z]$/) {
+        if ($1 == ".Pq") { left = "("; right = ")"; first = 2 }
+        if ($first ~ /Ql$/) quote = "\047"
+        first++
+      }
+      if (quote == "" && left == "") { for (i = first; i <= last; i++) joined = take(joined, $i); flush(); next }
+      behind = ""
+      while (last > first && $last ~ /^[,.:;]$/) { behind = $last behind; last-- }
+      $first = left quote $first; $last = $last quote right behind
+      for (i = first; i <= last; i++) put($i)
+    }
+    function take(before, word) {
+      if (before == "") return word
+      return before (word ~ /^[,.:;]$/ ? "" : " ") word
+    }
+    function flush(   words, n, i) {
+      n = split(joined, words, " ")
+      for (i = 1; i <= n; i++) put(words[i])
+      joined = ""
+    }
+    END { if (line != "") print line }'
+}
+
 # Prints the row of a command that `asked` names, with what its words are.
 tell_asked() {
   if [ "${row[command]}" != "$asked" ]; then return; fi
-  printf 'virage %s %s\n%s.\n%s\n' "${row[command]}" "${row[words]}" "${row[does]^}" "${row[more]}" |
-    sed -z 's/\n\.[A-Z][a-z] / /g; s/ Ql / /g; s/ \([,.:;]\)/\1/g' | fold -s -w 80
+  printf 'virage %s %s\n\n%s.\n' "${row[command]}" "${row[words]}" "${row[does]^}"
+  printf '%s\n' "${row[more]}" | plain_text
   printf '\n'
   asked_words=" ${row[words]//[][]/} "
   each_row words tell_asked_word
@@ -63,15 +97,32 @@ tell_asked_word() {
 
 # Prints help on what is asked: a command, or the properties.
 tell_about() {
-  local asked=$1 asked_words
+  local asked=$1 asked_words near
   if [ "$asked" = properties ]; then
     grep -v '^#' "$tables/properties" | sed 's/^\([^:]*\): /  \1\n    /'
   elif find_form "$asked"; then
     each_row commands tell_asked
   else
-    say "there is no command '$asked'; '$called help' has the commands"
+    near=$({ column command "$tables/commands"; echo properties; } | nearest "$asked")
+    say "there is no command '$asked'${near:+ (is $near meant?)}; '$called help' has the commands"
     return 2
   fi
+}
+
+# Prints the help that is asked for, where $1 and $2 are as `tell_summary` takes them and the words of the call follow.
+# Where none is asked for, the status is 1, and where it isn't there, 2.
+help_asked() {
+  local examples=$1 more=$2
+  shift 2
+  case ${1-help} in
+    help | -h | --help)
+      read_forms
+      if [ $# -gt 1 ]; then tell_about "$2"; else tell_summary "$examples" "$more"; fi
+      return ;;
+  esac
+  case ${2-} in -h | --help) ;; *) return 1 ;; esac
+  read_forms
+  [ $# -eq 2 ] && find_form "$1" && tell_about "$1"
 }
 
 # Prints the summary, where $1 is the folder that the examples are run in and $2 where there is more.
@@ -82,7 +133,9 @@ tell_summary() {
   printf 'The words:\n\n'
   each_row words tell_word
   printf '\nA file may be a pipe, as /dev/stdin. The examples are run in %s.\n' "$1"
-  printf "'%s help', -h or --help prints this, and --version the version.\n%s\n" "$called" "$2"
+  printf "'%s help', -h or --help prints this, and --version the version.\n" "$called"
+  printf "'%s help COMMAND' says more of a command, as COMMAND --help does, and\n" "$called"
+  printf "'%s help properties' has the properties.\n%s\n" "$called" "$2"
 }
 
 # Sets `form` to the words of the command $1, where it is one.

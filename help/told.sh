@@ -1,6 +1,8 @@
-# What is said behind the program's own line on standard error: which word, which file and which place it speaks of, and
-# what its kind means. guide.sh reads this file. Each line begins with `virage: `. Files are read again for it, so of a
-# pipe no place is shown.
+# What is said behind the program's own line on standard error: which word is wrong, and which file can't be read.
+# guide.sh reads this file, and places.sh, which has what is said of a fault in a file. Each line begins with `virage: `.
+
+readonly MODULES=(elect defer plurality pass drop max min below upto) COMPOSITIONS=(rev seq par loop until)
+readonly SCORES=(plurality borda copeland minimax condorcet)
 
 # ---- usage faults
 
@@ -27,11 +29,20 @@ nearest() {
       return row[length(b)]
     }
     word != "" && length(word) <= 40 {
-      if (index($0, word) == 1 || (length($0) > 3 && index(word, $0) == 1)) away = 1
+      if ($0 == word) away = 0
+      else if (index($0, word) == 1 || (length($0) > 3 && index(word, $0) == 1)) away = 1
       else away = distance(word, $0)
       if (best == "" || away < fewest) { best = $0; fewest = away }
     }
     END { if (best != "" && fewest <= (length(word) < 4 ? 1 : 2)) print best }'
+}
+
+# Whether the word $1 is one of the further words.
+is_one_of() {
+  local word=$1 other
+  shift
+  for other; do [ "$word" != "$other" ] || return 0; done
+  return 1
 }
 
 # Whether the word is a number without zeros in front, from $2 to $3.
@@ -51,7 +62,10 @@ wrong_property() {
     is_number "${BASH_REMATCH[2]}" 1 1000000 ||
       echo "the number of $1 isn't one from 1 to 1000000 without zeros in front"
   elif ! sed -n 's/^\([^#:(]*\): .*/\1/p' "$tables/properties" | grep -qxF -- "$1"; then
-    near=$(sed -n 's/^\([^#:]*\): .*/\1/p' "$tables/properties" | nearest "$1")
+    case ${1,,} in
+      *condorcet*) near=cc ;;
+      *) near=$(sed -n 's/^\([^#:]*\): .*/\1/p' "$tables/properties" | nearest "${1//[[:blank:]]/}") ;;
+    esac
     echo "'$1' is no property${near:+ (is $near meant?)}; '$called help properties' has them"
   fi
 }
@@ -68,7 +82,9 @@ wrong_list() {
   for part in "${parts[@]}"; do
     said=$("$4" "$part")
     if [ -n "$said" ]; then
-      case $part in *' '*) said+=" (there are no blanks between the parts)" ;; esac
+      case $part in
+        *' '*) if [ -z "$("$4" "${part// /}")" ]; then said="a list has no blanks: ${2// /}"; fi ;;
+      esac
       echo "$said"
       return
     fi
@@ -76,13 +92,18 @@ wrong_list() {
 }
 
 wrong_module() {
-  local score='(plurality|borda|copeland|minimax|condorcet)' near
+  local score near
+  score="($(IFS='|' && echo "${SCORES[*]}"))"
   case $1 in elect | defer | plurality) return ;; esac
   if [[ $1 =~ ^(max|min|below|upto)\($score\)$ ]]; then return; fi
   if [[ $1 =~ ^(pass|drop)\(([0-9]+)(,\[[1-9][0-9]*(,[1-9][0-9]*)*\])?\)$ ]]; then
     is_number "${BASH_REMATCH[2]}" 1 1000000 && return
   fi
-  near=$(sed -n '/^word: LEAVES/,/^between/p' "$tables/words" | grep -o '[a-z]*([a-z0-9]*)\|[a-z]*' | nearest "$1")
+  if [ -z "$(wrong_property "$1")" ]; then
+    echo "'$1' is a property, and properties are joined by commas, as el,mono"
+    return
+  fi
+  near=$(sed -n '/^word: LEAVES/,/^between/p' "$tables/words" | grep -o '[a-z]*([a-z0-9]*)\|[a-z]*' | nearest "${1// /}")
   echo "'$1' is no module as it is printed${near:+ (is $near meant?)}"
 }
 
@@ -135,7 +156,7 @@ wrong_case() {
   case $3 in
     dli | imono | dimono | dmono | mono)
       [ $# -eq 6 ] || echo "$3 is judged on two profiles and the alternative that is raised" ;;
-    neut) echo "neut isn't judged" ;;
+    neut) echo "no case of neut is judged; examples/search/counterexample.py looks for one by two counts" ;;
     *) [ $# -eq 4 ] || echo "$3 is judged on one profile" ;;
   esac
 }
@@ -151,6 +172,9 @@ say_wrong_word() {
     words="are $called_with words"
     if [ "$called_with" -eq 1 ]; then words="is 1 word"; fi
     say "there $words behind '$command', and it takes $least$([ "$least" -eq "$most" ] || echo " or $most")"
+    if [ "$command" = synth ] && [ "$called_with" -gt "$most" ] && [ -z "$(wrong_property "$4")" ]; then
+      say "properties are joined by commas, as el,mono"
+    fi
     return
   fi
   shift 2
@@ -226,73 +250,4 @@ say_unread() {
   done
   if [ -z "$found" ] && [ "$1" = batch ]; then say_unread_names "$3" && found=yes; fi
   if [ -z "$found" ]; then say "each file is there and can be opened now: a device may have failed"; fi
-}
-
-# Says what a kind of fault means, by the table `faults`.
-say_kind() {
-  local words
-  words=$(sed -n "s/^$1 $2: //p" "$tables/faults")
-  if [ -n "$words" ]; then say "$2: $words"; fi
-}
-
-# Says a text that a user's file has, without control characters.
-say_quoted() {
-  local LC_ALL=C text=$1
-  text=${text//$'\302'[$'\200'-$'\237']/?}
-  say "  ${text//[$'\001'-$'\010'$'\013'-$'\037'$'\177']/?}"
-}
-
-# Says where the byte $2 of the file $1 stands: its line, with a caret under it.
-say_place() {
-  local shown
-  if [ ! -f "$1" ]; then
-    say "'$1' is no ordinary file, so its place isn't shown"
-    return
-  fi
-  shown=$("$place_tool" "$1" "$2") || return 0
-  say "'$1', ${shown%%$'\n'*}"
-  shown=${shown#*$'\n'}
-  if [ "${#shown}" -le 400 ]; then
-    say_quoted "${shown%$'\n'*}"
-    say_quoted "${shown##*$'\n'}"
-  fi
-}
-
-# Says after a refused text which file it is, where, and what its kind means. The line of the program is $1, the program
-# is $2, and its words follow.
-say_refused_text() {
-  local program=$2 file kind place table=text
-  [[ $1 =~ ^text\ refused:\ ([A-Za-z]+)\ at\ byte\ ([0-9]+)$ ]] || return 0
-  kind=${BASH_REMATCH[1]} place=${BASH_REMATCH[2]}
-  shift 2
-  file=$2
-  if [ "$1" = batch ] && [ -f "$2" ] && "$program" listing "$2" >/dev/null 2>&1; then
-    file=$3 table=manifest
-  fi
-  say_place "$file" "$place"
-  say_kind $table "$kind"
-}
-
-# The same after a refused profile.
-say_refused_profile() {
-  local program=$2 kind number form file i shown
-  local -a names
-  [[ $1 =~ ^profile\ refused:\ ([A-Za-z]+)\ at\ line\ ([0-9]+)$ ]] || return 0
-  kind=${BASH_REMATCH[1]} number=${BASH_REMATCH[2]}
-  shift 2
-  find_form "$@" || return 0
-  read -ra names <<<"${form//[][]/}"
-  for ((i = 0; i < ${#names[@]} && i + 1 < $#; i++)); do
-    case ${names[i]} in SOC*) file=${*:i+2:1} ;; *) continue ;; esac
-    # of two profiles the first that is refused is meant
-    if [ -f "$file" ] && ! "$program" position 0 max "$file" >/dev/null 2>&1; then break; fi
-  done
-  if [ -f "$file" ]; then
-    say "'$file', line $number"
-    shown=$(sed -n "${number}{p;q}" -- "$file" | tr -d '\r\000' | head -c 200)
-    if [ -n "$shown" ]; then say_quoted "$shown"; fi
-  else
-    say "'$file' is no ordinary file, so its line isn't shown"
-  fi
-  say_kind profile "$kind"
 }

@@ -9,12 +9,16 @@ found first is made smaller while it still violates the property; then it is wri
 command that shows it again. What is found is proved: the rule lacks the property. Only of `neut`, which `refute`
 doesn't judge, it is by two counts. Finding nothing proves nothing.
 
+The files are called RULE.PROPERTY.soc and, of a property on lifts, RULE.PROPERTY.lifted.soc, in the folder of the call.
+No file is overwritten: where one of these names is taken by something else, a number stands before the ending.
+
 The status is 0 where a case is found, 1 where none is, 2 where the words are wrong, and 3 where virage gives no answer.
 """
 
 from __future__ import annotations
 
 import argparse
+import itertools
 import os
 import shlex
 import shutil
@@ -22,7 +26,7 @@ import sys
 import time
 import warnings
 from pathlib import Path
-from typing import Any, List, Optional, TextIO, Tuple, Union
+from typing import Any, List, Optional, Sequence, TextIO, Tuple, Union
 
 TOP = Path(__file__).resolve().parents[2]
 if (TOP / "python" / "virage").is_dir():
@@ -64,10 +68,32 @@ class Progress:
             self._stream.write("\r\x1b[K")
 
 
-def written(name: str, profile: virage.Profile) -> str:
-    """Writes a profile to a file, and gives it as it is printed: under the name of the file."""
-    Path(name).write_bytes(profile.text())
+def shown(name: str, profile: virage.Profile) -> str:
+    """A profile as it is printed: under the name of its file."""
     return f"{name}:\n" + "".join(f"  {line}\n" for line in profile.text().decode().splitlines())
+
+
+def written(name: str, profiles: Sequence[virage.Profile]) -> List[str]:
+    """Writes a profile to NAME.soc, and a second one to NAME.lifted.soc, and gives the names of the files.
+
+    Where such a file is there and holds something else, NAME.2.soc is written, or the next number that is free.
+    """
+    for number in itertools.count(1):
+        stem = name if number == 1 else f"{name}.{number}"
+        files = [f"{stem}.soc", f"{stem}.lifted.soc"][: len(profiles)]
+        if all(map(kept, files, profiles)):
+            return files
+    raise AssertionError("numbers end")
+
+
+def kept(name: str, profile: virage.Profile) -> bool:
+    """Whether a file holds this profile now: it did, or wasn't there and is written."""
+    try:
+        with open(name, "xb") as file:
+            file.write(profile.text())
+    except FileExistsError:
+        return os.path.isfile(name) and Path(name).read_bytes() == profile.text()
+    return True
 
 
 def called(program: virage.Program) -> str:
@@ -77,6 +103,11 @@ def called(program: virage.Program) -> str:
     return "virage" if program.path == shutil.which("virage") else program.path
 
 
+def stem(rule: str, property: str) -> str:
+    """What the files of a case are named after, as those of examples/counterexamples are."""
+    return f"{Path(rule).stem}.{property.replace('(', '').replace(')', '')}"
+
+
 def listed(result: Optional[virage.Result]) -> str:
     """A result on one line."""
     return "; ".join(str(result).splitlines())
@@ -84,20 +115,21 @@ def listed(result: Optional[virage.Result]) -> str:
 
 def found_text(found: virage.Counterexample, options: argparse.Namespace) -> str:
     """What is printed of a case that violates the property. Its profiles are written to files."""
-    first, second = (f"{options.files}-{number}.soc" for number in (1, 2))
+    profiles = [found.profile] + [found.second] * (found.second is not None)
+    files = written(options.files or stem(options.rule, options.property), profiles)
     text = f"case {found.tried:,} of seed {options.seed} violates {options.property}; this is left of it:\n"
-    text += written(first, found.profile)
-    words = [called(virage.Program()), "refute", options.rule, options.property, first]
+    text += shown(files[0], found.profile)
+    words = [called(virage.Program()), "refute", options.rule, options.property, *files]
     if found.renaming is not None:
         names = ", ".join(f"{old} is {new}" for old, new in enumerate(found.renaming, 1))
         return text + f"with {listed(found.before)}\nand, where {names}, {listed(found.after)}\n"
     if found.second is not None:
-        text += written(second, found.second)
+        text += shown(files[1], found.second)
         lines = [at for at, (before, after) in enumerate(zip(found.profile.lines, found.second.lines), 1)
                  if before != after]
         where = f"on line {', '.join(map(str, lines))} of the votes" if lines else "nowhere"
         text += f"  (alternative {found.lifted} is raised {where})\n"
-        words += [second, str(found.lifted)]
+        words.append(str(found.lifted))
     return text + f"the rule lacks the property, which is proved; this shows it again:\n  {shlex.join(words)}\n"
 
 
@@ -140,20 +172,20 @@ def read_options(words: Optional[List[str]] = None) -> argparse.Namespace:
     parser.add_argument("--lines", type=count, default=Bounds().lines, help="how many at most (%(default)s)")
     parser.add_argument("--weight", type=count, default=Bounds().weight, help="of a line, at most (%(default)s)")
     parser.add_argument(
-        "--files", default="counterexample", metavar="NAME", help="NAME-1.soc and NAME-2.soc are written (%(default)s)")
+        "--files", metavar="NAME", help="NAME.soc and NAME.lifted.soc are written (RULE.PROPERTY); none is overwritten")
     options = parser.parse_args(words)
     if not os.path.isfile(options.rule):
         parser.error(f"{options.rule} is no file that can be read again and again")
     if options.property in ON_LIFTS and options.alternatives[1] < 2:
         parser.error("a single alternative can't be raised")
-    if not Path(options.files).parent.is_dir():
+    if options.files and not Path(options.files).parent.is_dir():
         parser.error(f"there is no folder {Path(options.files).parent}")
     options.bounds = Bounds(options.alternatives, options.lines, options.weight)
     return options
 
 
 def tell_warning(message: Union[Warning, str], *_: Any, **__: Any) -> None:
-    """Says a warning as the script of a checkout says it of its build."""
+    """Says a warning, or what judges, as the script of a checkout says it of its build."""
     print(f"virage: {message}", file=sys.stderr)
 
 
@@ -164,6 +196,7 @@ def main() -> int:
     search = None
     try:
         search = Search(options.rule, options.property, options.seed, options.bounds)
+        tell_warning(f"the cases are judged by {search.means}")
         found = search.run(options.cases, progress.tell)
     except virage.UsageFault:
         print(f"virage takes no refute of the property {options.property}", file=sys.stderr)

@@ -4,6 +4,7 @@ import os
 import stat
 import tempfile
 import unittest
+import warnings
 from pathlib import Path
 
 import virage
@@ -143,11 +144,19 @@ class Faults(unittest.TestCase):
         lines = "lines 1 voters 1 alternatives 1"
         with self.assertWarns(virage.BuildWarning):
             virage.drill(0, 1, 1, program=_program(self, f"echo 'virage: old' >&2; echo '{lines}'"))
+        with warnings.catch_warnings():
+            warnings.simplefilter("error")
+            virage.drill(0, 1, 1, program=_program(self, f"echo 'virage: old' >&2; echo '{lines}'"))
 
-    def test_a_proved_build_can_be_called_without_its_script(self) -> None:
-        script = _program(self, "echo 'virage 0'; echo 'build: proved, /some where/virage'")
-        self.assertEqual(script.direct().path, "/some where/virage")
-        for body in ("echo 'build: unproved, /some where/virage'", "echo 'build: proved, of some commit'", "exit 2"):
+    def test_a_build_can_be_called_without_its_script(self) -> None:
+        for kind in ("proved", "unproved"):
+            script = _program(self, f"echo 'virage 0'; echo 'build: {kind}, /some where/virage'")
+            self.assertEqual(script.direct().path, "/some where/virage")
+        # (one that isn't there yet is made by a first call)
+        making = 'if [ "$1" != --version ]; then : >"$0.made"; fi; if [ -e "$0.made" ]; '
+        making += "then echo 'build: unproved, /made'; else echo 'build: none of these sources is here yet'; fi"
+        self.assertEqual(_program(self, making).direct().path, "/made")
+        for body in ("echo 'build: none of these sources is here yet'", "echo 'build: proved, of a commit'", "exit 2"):
             other = _program(self, body)
             self.assertIs(other.direct(), other)
         missing = virage.Program("/nonexistent/virage")

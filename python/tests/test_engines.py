@@ -63,6 +63,37 @@ class Words(unittest.TestCase):
             self.assertEqual(fault.exception.word, word)
             self.assertIn(repr(word), str(fault.exception))
 
+    def test_what_a_wrong_word_should_be(self) -> None:
+        votes = [(1, [1, 2])]
+        for call, said in (
+            (lambda: virage.prove("elect", "monotone"), "(is mono meant?)"),
+            (lambda: virage.prove("elect", "defer"), "(is defers(1) meant?)"),
+            (lambda: virage.prove("elect", "elim"), ": elim has a number, as elim(1)"),
+            (lambda: virage.refute("elect", "mono", votes), "takes a second profile too, and the alternative that is"),
+            (lambda: virage.refute("elect", "cc", votes, votes, 1), "takes one profile"),
+            (lambda: virage.refute("elect", "neut", votes), "virage.search looks for one"),
+            (lambda: virage.synth(3, "el,monoo"), "(is mono meant?)"),
+            (lambda: virage.synth(3, "el", "elect;defr"), "(is defer meant?)"),
+            (lambda: virage.position([1, 0], "upt", votes), "(is upto meant?)"),
+        ):
+            with self.assertRaises(virage.UsageFault) as fault:
+                call()
+            self.assertIn(said, str(fault.exception))
+
+    def test_a_file_that_cannot_be_read_is_named(self) -> None:
+        here = os.path.dirname(__file__)
+        for call, said in (
+            (lambda: virage.count("elect", "no.soc"), "read fault: 'no.soc': no such file"),
+            (lambda: virage.count("elect", here), f"{here!r}: a folder"),
+            (lambda: virage.count("borda", CIRCLE), '"seq(max(borda),elect)" is a rule of this score'),
+            (lambda: virage.count("bord", CIRCLE), "'bord': no such file; a term as a string, or text with a semicolon"),
+            (lambda: virage.count("elect", "3: 1,2"), "the text of a profile has a line feed"),
+            (lambda: virage.batch("elect", [profile("tied"), "no.soc"]), "'no.soc': no such file"),
+        ):
+            with self.assertRaises(virage.ReadFault) as fault:
+                call()
+            self.assertIn(said, str(fault.exception))
+
 
 class Rules(unittest.TestCase):
     def test_a_term_is_a_rule(self) -> None:

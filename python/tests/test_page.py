@@ -1,15 +1,17 @@
 """The page of a report, as markup. No browser is called."""
 
+import itertools
 import subprocess
 import unittest
 from html.parser import HTMLParser
+from pathlib import Path
 from typing import List, Optional, Tuple
 
 import virage
 from virage import page, read_report
 
 from . import hostile
-from .places import EXPECTED, RULES, TOP, profile
+from .places import EXPECTED, RULES, TOP, profile, rule
 
 VOID = {"meta", "wbr"}
 ELEMENTS = VOID | set(
@@ -103,6 +105,23 @@ class Command(unittest.TestCase):
         ended = self._run((EXPECTED / "report.copeland.board").read_bytes())
         self.assertEqual((ended.returncode, ended.stderr), (0, b""))
         self.assertEqual(Reader(ended.stdout.decode()).wrong, [])
+
+    def test_each_part_behind_the_report_may_be_left_out(self) -> None:
+        rule_file, votes = rule("black"), profile("tied")
+        profile_text = b"\n\n" + Path(votes).read_bytes()
+        explained = virage.explain(rule_file, votes)
+        assert explained is not None
+        titles = {
+            "How the result came about": explained.text,
+            "Who is preferred to whom": virage.pairs(votes).text,
+            "The ballots": profile_text,
+        }
+        for some in itertools.product((False, True), repeat=3):
+            chosen = [text for text, taken in zip(titles.values(), some) if taken]
+            ended = self._run(b"".join([virage.report(rule_file, votes).text, *chosen]))
+            self.assertEqual((ended.returncode, ended.stderr), (0, b""), some)
+            said = Reader(ended.stdout.decode()).said
+            self.assertEqual([title in said for title in titles], list(some))
 
     def test_without_a_report(self) -> None:
         whole = (EXPECTED / "report.copeland.board").read_bytes()

@@ -3,7 +3,9 @@
 import importlib.util
 import io
 import itertools
+import tempfile
 import unittest
+from pathlib import Path
 from types import ModuleType
 from typing import Optional
 
@@ -142,6 +144,22 @@ class Searches(unittest.TestCase):
         progress.tell(1, 2)
         progress.end()
 
+    def test_no_file_is_overwritten(self) -> None:
+        face = _face("counterexample")
+        other = virage.Profile.of([(1, [1, 2])])
+        with tempfile.TemporaryDirectory() as room:
+            name = str(Path(room, face.stem("rules/borda.vir", "defers(2)")))
+            for profiles, files in (
+                ([VOTES], [".soc"]),
+                ([VOTES], [".soc"]),
+                ([other, VOTES], [".2.soc", ".2.lifted.soc"]),
+                ([VOTES, other], [".soc", ".lifted.soc"]),
+                ([VOTES, VOTES], [".3.soc", ".3.lifted.soc"]),
+            ):
+                written = face.written(name, profiles)
+                self.assertEqual(written, [f"{room}/borda.defers2{file}" for file in files])
+                self.assertEqual([Path(file).read_bytes() for file in written], [one.text() for one in profiles])
+
 
 class Maps(unittest.TestCase):
     def test_each_property_has_a_cell(self) -> None:
@@ -157,6 +175,14 @@ class Maps(unittest.TestCase):
         made = virage.map(rule("black"), cases=2)
         self.assertEqual((made.cells["mono"].kind, made.cells["mono"].why), ("open", "none of 2 cases violates it"))
         self.assertIn("mono", ON_LIFTS)
+
+    def test_what_is_open_may_be_known(self) -> None:
+        face = _face("map")
+        said = face.of_open(virage.map(rule("copeland"), cases=1))
+        self.assertRegex(said, r"\Alaws of docs/KNOWN.md may speak of what is open: .*\bdli\b.*\n.* has dli and dmono\n\Z")
+        self.assertEqual(face.of_open(virage.PropertyMap(virage.Term.read("elect"), {})), "")
+        self.assertTrue(face.ends_in_elect(virage.Term.read("seq(defer,seq(defer,elect))")))
+        self.assertFalse(face.ends_in_elect(virage.Term.read("par(defer,elect)")))
 
     def test_it_is_a_table_in_a_notebook(self) -> None:
         made = virage.map(rule("plurality"), cases=2)

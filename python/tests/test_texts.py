@@ -149,8 +149,9 @@ class Profiles(unittest.TestCase):
             Profile.of([(1, ["a", "c"])], names=["a", "b"])
         with self.assertRaises(ValueError):
             Profile.of([(1, [1])], names=["a\n1: 1"]).text()
-        with self.assertRaises(TypeError):
-            Profile.of([(1.5, [1])])
+        for line in ((1.5, [1]), ["tea", "milk"], ["tea", "milk", "soup"], [1, 2, 3], 7):
+            with self.assertRaisesRegex(TypeError, "a line of votes is a weight and an order"):
+                Profile.of([line])
 
 
 if __name__ == "__main__":

@@ -44,7 +44,7 @@ from .answers import (
 from .derivations import Underived
 from .engines import Engine, engine
 from .explanations import Explanation, Pairs, read_explained, read_pairs
-from .faults import Broken, TextRefused, UsageFault
+from .faults import Broken, ReadFault, TextRefused, UsageFault
 from .profiles import Files, Given, PathOrText, ProfileLike, RuleLike, names_in
 from .program import Answer
 from .terms import Term
@@ -245,6 +245,10 @@ def _run(called: Engine, words: Sequence[Union[str, Given]]) -> Answer:
         return called.run(*words)
     except UsageFault as stop:
         raise told_usage(called.run, stop, words) from None
+    except ReadFault as stop:
+        given = [given for word in words if isinstance(word, Given) for given in (word, *word.beside())]
+        why = next(filter(None, (it.unread() for it in given)), None)
+        raise stop if why is None else ReadFault(f"{stop}: {why}") from None
     except TextRefused as refused:
         raise TextRefused(refused.kind, _place(refused.byte, words[1])) from None
 

@@ -11,7 +11,7 @@ from pathlib import Path
 from types import TracebackType
 from typing import Dict, Iterable, Mapping, Optional, Sequence, SupportsIndex, Tuple, Type, Union
 
-from .terms import Term
+from .terms import SCORES, Term
 
 Order = Sequence[Union[SupportsIndex, str]]
 Line = Tuple[SupportsIndex, Order]
@@ -35,7 +35,7 @@ class Profile:
 
         The alternatives are numbered as in `names`; without them, where orders list names, as in the first order.
         """
-        ballots = [(operator.index(weight), tuple(order)) for weight, order in lines]
+        ballots = list(map(_ballot, lines))
         first = ballots[0][1] if ballots else ()
         called = list(names) or [name for name in first if isinstance(name, str)]
         numbers = {name: i for i, name in enumerate(called, 1)}
@@ -70,6 +70,15 @@ class Profile:
         return "".join(line + "\n" for line in said).encode("utf-8", "surrogateescape")
 
 
+def _ballot(line: Line) -> Tuple[int, Tuple[Union[SupportsIndex, str], ...]]:
+    try:
+        weight, order = line
+        return operator.index(weight), tuple(order)
+    except (TypeError, ValueError):
+        said = "a line of votes is a weight and an order, as (3, [2, 1, 3]) or (3, ['tea', 'milk'])"
+        raise TypeError(f"{said}, and not {line!r}") from None
+
+
 def _number(entry: Union[SupportsIndex, str], numbers: Mapping[str, int]) -> int:
     if not isinstance(entry, str):
         return operator.index(entry)
@@ -89,6 +98,9 @@ _TERM = re.compile(r"\s*[A-Za-z][A-Za-z0-9_-]*\s*\([A-Za-z0-9_,()[\]\s-]*\)\s*")
 
 # how many bytes the path of a file that is kept has at most, unless the folder for such files is far down
 _MOST_OF_KEPT = 100
+
+# the name that the file of a rule has in a call
+RULE_FILE = "rule.vir"
 
 # what stands before a term in the text of a rule file that is made of it
 _RULE = b"rule = "
@@ -110,7 +122,20 @@ class Given:
         self.before = before
         self._files = files
         self._path = path
+        self._named = path
         self._content = content
+
+    def unread(self) -> Optional[str]:
+        """Which file can't be read, and why, as far as that is seen now; None where nothing is."""
+        if self._named is None:
+            return None
+        if not os.path.lexists(self._named):
+            return f"{self._named!r}: no such file{_meant(self.name, self._named)}"
+        if not os.path.exists(self._named):
+            return f"{self._named!r}: a link to no file"
+        if os.path.isdir(self._named):
+            return f"{self._named!r}: a folder"
+        return None if os.access(self._named, os.R_OK) else f"{self._named!r}: no permission to read it"
 
     def content(self) -> Optional[bytes]:
         """What stands in it; None where it can't be read."""
@@ -197,7 +222,7 @@ class Files:
             return self._term(str(rule))
         if isinstance(rule, str) and ";" not in rule and _is_term(rule):
             return self._term(rule)
-        return self.path_or_text("rule.vir", rule, ";")
+        return self.path_or_text(RULE_FILE, rule, ";")
 
     def profile(self, profile: ProfileLike, name: str = "profile.soc") -> Given:
         """The file of a profile, of this name where it has none.
@@ -241,7 +266,7 @@ class Files:
 
     def _term(self, text: str) -> Given:
         content = b"%s%s;\n" % (_RULE, text.encode("utf-8", "surrogateescape"))
-        return Given(self, "rule.vir", None, content, len(_RULE))
+        return Given(self, RULE_FILE, None, content, len(_RULE))
 
 
 def _is_term(text: str) -> bool:
@@ -251,6 +276,16 @@ def _is_term(text: str) -> bool:
     except ValueError:
         return _TERM.fullmatch(text) is not None and not os.path.exists(text)
     return True
+
+
+def _meant(name: str, path: str) -> str:
+    """What may be meant by a string that is taken for the path of a file of this name and isn't one."""
+    if name == RULE_FILE and re.fullmatch(r"[a-z]+", path):
+        said = f'; "seq(max({path}),elect)" is a rule of this score' if path in SCORES else ""
+        return f"; a term as a string, or text with a semicolon, is a rule that isn't read from a file{said}"
+    if name != RULE_FILE and re.fullmatch(r"[0-9]+:[0-9, ]+", path):
+        return "; the text of a profile has a line feed"
+    return ""
 
 
 def _is_text(path: str) -> bool:

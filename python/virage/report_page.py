@@ -1,7 +1,7 @@
 """`python3 -m virage.report_page` reads a report from standard input and writes its page to standard output.
 
-Behind the report may stand what `explain`, what `pairs` and what `cat` of the profile prints, in this order: each of
-them is shown too.
+Behind the report may stand what `explain`, what `pairs` and what `cat` of the profile prints, in this order, or some of
+them: each is shown too.
 """
 
 import re
@@ -10,28 +10,28 @@ from typing import List, Optional
 
 from . import Profile, page, read_explanation, read_pairs, read_report
 
-# where an explanation, pairs and a profile begin, behind a report
+# where an explanation and pairs begin, behind a report
 _PARTS = re.compile(
     rb"(?m)^(?=rule )|^(?=explanation too long$)|^(?=alternatives [0-9]+\nvoters [0-9]+\n(?:name .*\n)*prefer )"
 )
-_TOLD = re.compile(rb"(?s)(.*?^condorcet winner: [a-z0-9]+\n)(.*)", re.MULTILINE)
+
+# where a profile begins: no line of what the program prints begins so, and its empty lines stand within explanations
+_PROFILE = re.compile(rb"(?m)^(?:[ \t\r]*\n)*(?:\xef\xbb\xbf|[ \t]*(?:#|[0-9]+[ \t]*:))")
 
 
 def drawn(text: bytes) -> str:
     """The page of these texts, one behind the other."""
-    parts: List[bytes] = [part for part in _PARTS.split(text) if part]
-    report = read_report(parts[0])
-    explanation, pairs, profile = None, None, None
+    begins = _PROFILE.search(text)
+    printed, votes = (text, b"") if begins is None else (text[: begins.start()], text[begins.start() :])
+    parts: List[bytes] = [part for part in _PARTS.split(printed) if part]
+    report = read_report(parts[0] if parts else b"")
+    explanation, pairs = None, None
     for part in parts[1:]:
         if part.startswith(b"rule "):
             explanation = read_explanation(part)
         elif part.startswith(b"alternatives "):
-            told = _TOLD.fullmatch(part)
-            if told is None:
-                raise ValueError("the text of pairs ends too soon")
-            pairs = read_pairs(told[1])
-            profile = Profile.read(told[2]) if told[2] else None
-    return page(report, explanation, pairs, profile)
+            pairs = read_pairs(part)
+    return page(report, explanation, pairs, Profile.read(votes) if votes else None)
 
 
 def main() -> int:

@@ -25,6 +25,11 @@ _WHY = re.compile(r"- `([a-z0-9-]+)`: (.*)$")
 _NOTES = ("Lifts", "Renaming", "Disjoint terms")
 _LETTERS = ("k", "m", "n", "o", "t", "u")
 
+# the properties that speak of an alternative that is lifted: of an elected one, or of a deferred one
+OF_ELECTED = ("imono", "mono")
+OF_DEFERRED = ("dli", "dimono", "dmono")
+ON_LIFTS = OF_ELECTED + OF_DEFERRED
+
 Value = Union[Term, int, Tuple[int, ...]]
 
 

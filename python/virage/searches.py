@@ -25,12 +25,9 @@ from .commands import count, refute
 from .engines import Engine, engine
 from .profiles import Profile, RuleLike
 from .program import Program
+from .rules import OF_ELECTED
+from .rules import ON_LIFTS as ON_LIFTS
 from .terms import Term
-
-# the properties that speak of an alternative that is lifted: of an elected one, or of a deferred one
-OF_ELECTED = ("imono", "mono")
-OF_DEFERRED = ("dli", "dimono", "dmono")
-ON_LIFTS = OF_ELECTED + OF_DEFERRED
 
 Progress = Callable[[int, int], None]
 
@@ -106,6 +103,13 @@ class Search:
         self.rule = _once_read(self.rule)
         if self.program is None:
             self.program = _for_many_calls()
+
+    @property
+    def means(self) -> str:
+        """By what the cases are judged, in words."""
+        if isinstance(self.program, Program):
+            return f"a process of {self.program.path} each"
+        return f"the {self.program}, in this process"
 
     @property
     def word(self) -> str:

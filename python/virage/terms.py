@@ -31,6 +31,10 @@ _TAKES: Dict[str, Tuple[str, ...]] = {
     "until": ("number", "part"),
 }
 
+# the words of modules, and those of scores
+MODULES = tuple(word for word, takes in _TAKES.items() if "part" not in takes)
+SCORES = ("plurality", "borda", "copeland", "minimax", "condorcet")
+
 
 @dataclass(frozen=True)
 class Tree:
