@@ -81,19 +81,20 @@ def written(name: str, profiles: Sequence[virage.Profile]) -> List[str]:
     for number in itertools.count(1):
         stem = name if number == 1 else f"{name}.{number}"
         files = [f"{stem}.soc", f"{stem}.lifted.soc"][: len(profiles)]
-        if all(map(kept, files, profiles)):
-            return files
-    raise AssertionError("numbers end")
+        if all(map(is_free, files, profiles)):
+            break
+    if number > 1:
+        tell_warning(f"{name}.soc or {name}.lifted.soc holds something else, so a number stands in the names")
+    for file, profile in zip(files, profiles):
+        if not os.path.lexists(file):
+            with open(file, "xb") as made:
+                made.write(profile.text())
+    return files
 
 
-def kept(name: str, profile: virage.Profile) -> bool:
-    """Whether a file holds this profile now: it did, or wasn't there and is written."""
-    try:
-        with open(name, "xb") as file:
-            file.write(profile.text())
-    except FileExistsError:
-        return os.path.isfile(name) and Path(name).read_bytes() == profile.text()
-    return True
+def is_free(name: str, profile: virage.Profile) -> bool:
+    """Whether a file can be had for this profile: it isn't there, or holds just that."""
+    return not os.path.lexists(name) or (os.path.isfile(name) and Path(name).read_bytes() == profile.text())
 
 
 def called(program: virage.Program) -> str:
@@ -210,8 +211,15 @@ def main() -> int:
         return STOPPED
     finally:
         progress.end()
-    print(none_text(search, options) if found is None else found_text(found, options), end="")
-    return NONE if found is None else FOUND
+    if found is None:
+        print(none_text(search, options), end="")
+        return NONE
+    try:
+        print(found_text(found, options), end="")
+    except OSError as stop:
+        print(f"no file of the case can be written: {stop.strerror}: {stop.filename}", file=sys.stderr)
+        print(f"case {found.tried:,} of seed {options.seed} violates {options.property}; this is left of it:\n{found}")
+    return FOUND
 
 
 if __name__ == "__main__":

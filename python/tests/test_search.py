@@ -1,5 +1,6 @@
 """The search for counterexamples, what it finds, and the map of a rule."""
 
+import contextlib
 import importlib.util
 import io
 import itertools
@@ -156,9 +157,11 @@ class Searches(unittest.TestCase):
                 ([VOTES, other], [".soc", ".lifted.soc"]),
                 ([VOTES, VOTES], [".3.soc", ".3.lifted.soc"]),
             ):
-                written = face.written(name, profiles)
+                with contextlib.redirect_stderr(io.StringIO()):
+                    written = face.written(name, profiles)
                 self.assertEqual(written, [f"{room}/borda.defers2{file}" for file in files])
                 self.assertEqual([Path(file).read_bytes() for file in written], [one.text() for one in profiles])
+            self.assertEqual(len(list(Path(room).iterdir())), 6)
 
 
 class Maps(unittest.TestCase):

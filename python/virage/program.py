@@ -99,9 +99,10 @@ class Program:
         found = re.search(rb"^build: (proved|unproved), (/.*)$", ended.stdout, re.MULTILINE)
         if found:
             return found[1], os.fsdecode(found[2])
+        if not re.search(rb"^build: proved, of ", ended.stdout, re.MULTILINE):
+            return None
         installed = Path(shutil.which(self.path) or self.path).resolve().parents[1] / "lib" / "virage" / "virage"
-        is_proved = re.search(rb"^build: proved, of ", ended.stdout, re.MULTILINE)
-        return (b"proved", str(installed)) if is_proved and os.access(installed, os.X_OK) else None
+        return (b"proved", str(installed)) if os.access(installed, os.X_OK) else None
 
     def _made(self) -> None:
         """Calls the script once, so that it makes its build, and says what it says of it."""
