@@ -1,8 +1,8 @@
 #!/usr/bin/env bash
 # Measures `position` beside `count`, reading included, on large profiles: with Borda's weights, which have to defer
 # whom `max(borda)` defers, with those of 2-approval and with those of the veto. Prints a table as in bench/RESULTS.md.
-# It ends with 1 where a result differs, or where `position` takes more instructions than `count` with `max(borda)`;
-# valgrind and GNU time have to be there.
+# It ends with 1 where a result differs, or where `position` takes a hundredth more instructions than `count` with
+# `max(borda)`, which adds up the same places; valgrind and GNU time have to be there.
 set -u
 . "$(dirname "$0")/common.sh"
 need_time
@@ -27,7 +27,7 @@ position_rows() {
     echo "bench: max by Borda's weights defers others than max(borda)" >&2
     exit 1
   fi
-  ((instructions <= $3)) || missed+=("position, $1, $2 alternatives")
+  ((instructions <= $3 + $3 / 100)) || missed+=("position, $1, $2 alternatives")
 }
 
 # positions LINES ALTERNATIVES: the rows of one profile
