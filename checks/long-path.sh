@@ -13,7 +13,7 @@ mkdir -p "$place/crates/virage/out"
 git ls-files -z | xargs -0 cp --parents -t "$place"
 cp -p crates/virage/out/virage crates/virage/out/virage.sources "$place/crates/virage/out/" || exit 1
 cd "$place" || exit 1
-git init -q . && git add -A && git -c user.name=checks -c user.email=checks@localhost commit -qm "a copy" || exit 1
+git init -q . && git add -A && git -c user.name=checks -c user.email=checks@virage.example commit -qm "a copy" || exit 1
 if [ ${#place} -le 120 ]; then echo "long path: the path isn't long" && faults=1; fi
 case $(./virage --version) in
   *"build: proved, $place/"*) ;;
