@@ -50,6 +50,11 @@ single_calls() {
   echo "$sum"
 }
 
+# least_peak_of WORDS..: the least peak of memory of three calls in kB, which differs by some hundred from call to call
+least_peak_of() {
+  for _ in 1 2 3; do peak_of "$@"; done | sort -n | head -n 1
+}
+
 # batch_row NAME COUNT FILE..: the row of a batch of so many names
 batch_row() {
   local what=$1 batch singles peak few held
@@ -58,8 +63,8 @@ batch_row() {
   head -n 100 "$room/names" >"$room/few"
   batch=$(instructions_of batch "$room/rule" "$room/names")
   singles=$(single_calls "$room/names")
-  peak=$(peak_of batch "$room/rule" "$room/names")
-  few=$(peak_of batch "$room/rule" "$room/few")
+  peak=$(least_peak_of batch "$room/rule" "$room/names")
+  few=$(least_peak_of batch "$room/rule" "$room/few")
   echo "| $what | $batch | $singles | $(ratio "$batch" "$singles") | $few | $peak |" \
     "$(seconds_of "$program" batch "$room/rule" "$room/names") | $(seconds_of loop_over_count "$room/names") |"
   if ((batch * 10 > singles * 11)); then missed+=("$what: instructions"); fi
@@ -70,7 +75,7 @@ batch_row() {
 # count_in_parts: the names at hand, cut, counted by 4 jobs of GNU parallel, and joined
 count_in_parts() {
   rm -rf "$room/parts"
-  "$top/examples/many/cut" "$room/names" 125 "$room/parts"
+  "$top/examples/many/cut" "$room/names" 625 "$room/parts"
   "$top/examples/many/undone" "$room/parts" |
     VIRAGE=$program parallel --jobs 4 "$top/examples/many/part" "$room/rule" {}
   "$top/examples/many/join" "$room/parts" >"$room/joined"
@@ -79,12 +84,12 @@ count_in_parts() {
 parallel_row() {
   local number one four times
   for number in {1..20}; do profile 1000 100 , '\n' "$number" >"$room/wide.$number.soc" || exit 1; done
-  manifest 2000 "$room"/wide.*.soc >"$room/names"
+  manifest 10000 "$room"/wide.*.soc >"$room/names"
   one=$(seconds_of "$program" batch "$room/rule" "$room/names")
   four=$(seconds_of count_in_parts)
   if ! "$program" batch "$room/rule" "$room/names" | cmp -s - "$room/joined"; then missed+=("parallel: the answer"); fi
   times=$(ratio "$one" "$four")
-  printf '\n| 2,000 profiles | Seconds |\n|---|---|\n| one call | %s |\n| GNU parallel, 4 jobs | %s |\n' "$one" "$four"
+  printf '\n| 10,000 profiles | Seconds |\n|---|---|\n| one call | %s |\n| GNU parallel, 4 jobs | %s |\n' "$one" "$four"
   printf '| times as fast | %s |\n' "$times"
   awk -v times="$times" 'BEGIN { exit times < 2.5 }' || missed+=("parallel: $times times as fast")
 }
