@@ -1,5 +1,6 @@
 # What is said behind the program's own line on standard error: which word is wrong, and which file can't be read.
-# guide.sh reads this file, and places.sh, which has what is said of a fault in a file. Each line begins with `virage: `.
+# guide.sh reads this file, and places.sh, which has what is said of a fault in a file. Each line begins with
+# `virage: `.
 
 readonly MODULES=(elect defer plurality pass drop max min below upto) COMPOSITIONS=(rev seq par loop until)
 readonly SCORES=(plurality borda copeland minimax condorcet)
@@ -103,7 +104,8 @@ wrong_module() {
     echo "'$1' is a property, and properties are joined by commas, as el,mono"
     return
   fi
-  near=$(sed -n '/^word: LEAVES/,/^between/p' "$tables/words" | grep -o '[a-z]*([a-z0-9]*)\|[a-z]*' | nearest "${1// /}")
+  near=$(sed -n '/^word: LEAVES/,/^between/p' "$tables/words" | grep -o '[a-z]*([a-z0-9]*)\|[a-z]*' |
+    nearest "${1// /}")
   echo "'$1' is no module as it is printed${near:+ (is $near meant?)}"
 }
 

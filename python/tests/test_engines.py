@@ -86,7 +86,7 @@ class Words(unittest.TestCase):
             (lambda: virage.count("elect", "no.soc"), "read fault: 'no.soc': no such file"),
             (lambda: virage.count("elect", here), f"{here!r}: a folder"),
             (lambda: virage.count("borda", CIRCLE), '"seq(max(borda),elect)" is a rule of this score'),
-            (lambda: virage.count("bord", CIRCLE), "'bord': no such file; a term as a string, or text with a semicolon"),
+            (lambda: virage.count("bord", CIRCLE), "'bord': no such file; a term as a string, or text with a"),
             (lambda: virage.count("elect", "3: 1,2"), "the text of a profile has a line feed"),
             (lambda: virage.batch("elect", [profile("tied"), "no.soc"]), "'no.soc': no such file"),
         ):
