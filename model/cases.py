@@ -208,6 +208,34 @@ class CaseMaker(CertificateMaker):
         others.insert(self.random.randint(0, place), alternative)
         return tuple(others)
 
+    def searched_sizes(self):
+        """A number of alternatives and one of voters, up to which a search ends soon."""
+        sizes = (1, 0), (1, 3), (2, 0), (2, 2), (2, 5), (3, 0), (3, 1), (3, 2), (3, 3), (4, 1)
+        return list(map(str, self.one_of(*sizes)))
+
+    def searched_rule(self):
+        of = self.shaped() if self.happens(0.3) else self.term(self.random.randint(1, 7))
+        return self.one_rule(of) if within_limits(of) and self.happens(0.95) else self.some_rule_file()
+
+    def find_case(self):
+        property = self.some_property((1, 1, 2))
+        words = ['find', 'R', property_text(property), *self.searched_sizes()]
+        if self.happens(0.3):
+            parts = self.one_of(1, 2, 3, 7, 10_000)
+            words += [str(self.one_of(1, parts, self.random.randint(1, parts))), str(parts)]
+        return words, {'R': self.searched_rule()} if self.happens(0.98) else {}
+
+    def differ_case(self):
+        rules = {'R': self.searched_rule(), 'S': self.searched_rule()}
+        kind = self.random.random()
+        if kind < 0.2:
+            made = self.reducible(self.random.randint(2, 12))
+            if within_limits(made):
+                rules = dict.fromkeys('RS', self.one_rule(made))
+        elif kind < 0.23:
+            del rules[self.one_of('R', 'S')]
+        return ['differ', 'R', 'S', *self.searched_sizes()], rules
+
     def batch_case(self):
         files = {'R': self.rule_file() if self.happens(0.9) else self.bad_rule_file()}
         for number in range(self.one_of(0, 1, 2, 3, 5)):

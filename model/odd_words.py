@@ -34,6 +34,10 @@ FORMS = [
             repeated('3', 1025) + '|min|F', '1|max', '1|max|F|F'),
     *behind('refute|R', 'el|F', 'mono|F', 'el|F|F|1', 'mono|F|F|1', 'mono|F|F|0', 'mono|F|F|1024', 'mono|F|F|1025',
             'mono|F|F|x', 'mono|F|F', 'neut|F', 'neut|F|F|1', 'defers(2)|F', 'elim(3)|F'),
+    *behind('find|R', 'el|2|1', 'el|0|1', 'el|7|1', 'el|6|0', 'ne|6|1000', 'ne|6|1001', 'el|2|-1', 'neut|2|1', 'mono|2',
+            'mono|2|1|1', 'mono|2|1|1|1', 'mono|2|1|0|1', 'mono|2|1|2|1', 'mono|2|1|3|10000', 'mono|1|1|3|10001',
+            'mono|02|01', 'EL|2|1', 'el|2|1|1|1|1'),
+    *behind('differ|R', 'R|2|1', 'R|0|1', 'R|7|1', 'R|6|1000', 'R|6|1001', 'R|2', 'X|2|1', 'R|2|1|1'),
     'simplify', *behind('simplify', 'R', 'R|R'), *behind('batch', 'R|M', 'R', 'M|R', 'R|M|M'),
     'count|R\udcff|F', '\udcff', 'count|R|.', 'count|.|F', 'check|.']
 

@@ -17,6 +17,7 @@ from profiles import Tally
 from properties import REPORTED, property_text
 from rule_files import LONGEST_RULE_FILE, read_rule_file
 from rules import Of
+from small_cases import case_text, first_case, first_difference, size_text, votes_text
 from soc_files import SocReader
 from synthesis import first_fast
 from terms import term_text
@@ -44,6 +45,10 @@ def set_text(name, members):
 
 def result_text(split):
     return ''.join(set_text(name, members) for name, members in split._asdict().items())
+
+
+def one_line(split):
+    return ' '.join(result_text(split).splitlines())
 
 
 def finding_text(property, finding):
@@ -188,6 +193,24 @@ class Call:
         term, steps = simplified(self.rule(rule))
         return DONE, f'simple {term_text(term)}\n' + ''.join(f'{name} {place}\n' for place, name in steps)
 
+    def find(self, rule, property, alternatives, voters, *of_parts):
+        case = first_case(self.rule(rule), property, alternatives, voters, *of_parts)
+        if case is not None:
+            return DONE, f'violated {property_text(property)}\n' + case_text(case)
+        part = 'in part {} of {} '.format(*of_parts) if of_parts else ''
+        return DENIED, f'none {part}up to {alternatives} alternatives and {voters} voters\n'
+
+    def differ(self, rule, other_rule, alternatives, voters):
+        terms = self.rule(rule), self.rule(other_rule)
+        if simplified(terms[0])[0] == simplified(terms[1])[0]:
+            return DENIED, 'same\n'
+        found = first_difference(*terms, alternatives, voters)
+        if found is None:
+            return DENIED, f'same up to {alternatives} alternatives and {voters} voters\n'
+        profile, splits = found
+        ends = ''.join(f'{which} {one_line(split)}\n' for which, split in zip(('first', 'second'), splits))
+        return DONE, 'differ\n' + size_text(profile) + votes_text(profile) + ends
+
     def batch(self, rule, manifest):
         term = self.rule(rule)
         names = self.text(manifest, LONGEST_MANIFEST, read_manifest)
@@ -203,8 +226,7 @@ class Call:
             file = self.soc(name)
         except Fault as fault:
             return False, f'{name} refused {fault.kind} at line {fault.place}\n'
-        result = ' '.join(result_text(self.run(term, file)).splitlines())
-        return True, f'{name} voters {file.voters()} {result}\n'
+        return True, f'{name} voters {file.voters()} {one_line(self.run(term, file))}\n'
 
 
 def virage(words, shelf, out, err, bench, commands=COMMANDS):

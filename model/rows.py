@@ -2,6 +2,7 @@
 """Tries the model by itself: on elections and texts that were worked out by hand, on what is recorded of the examples,
 and on laws that have to hold of whatever is made at random. Prints what is wrong, and how much was tried."""
 import sys
+from math import comb, factorial
 from pathlib import Path
 
 from benches import Bench, full_bench
@@ -14,12 +15,13 @@ from equations import replayed, simplified
 from made_certificates import CertificateMaker
 from meaning import literal_meaning, meaning, meaning_on, score
 from positions import positional_scores
-from profiles import Tally, condorcet_winner, pair_table, restricted
+from profiles import Tally, condorcet_winner, is_lift, pair_table, restricted
 import program
 from program import answer, virage
 from properties import WORDS, Property
 from rule_files import read_rule_file
 from rules import RULES, Of
+from small_cases import cases_of, profiles_of
 from soc_files import SocReader, read_soc, settled_fault, soc_text
 from synthesis import all_modules, first_fast, first_plain, terms_of_size
 from terms import SCORES, term_text
@@ -149,6 +151,21 @@ TOLD = (
       'at 1 par\nof: 2 3\nelected:\nrejected: 2\ndeferred: 3',
       'at 0 loop(1)\nof: 1 2 3\nelected:\nrejected: 1 2\ndeferred: 3')))
 
+# words behind R, which is plurality, or behind R and S, which is Borda's count, and what is printed
+FOUND = (
+    ('plurality', 'find R cc 3 4',
+     'violated cc\nalternatives 3\nvoters 3\n1: 1,2,3\n1: 2,1,3\n1: 3,1,2\n'),
+    ('plurality', 'find R cc 2 9', 'none up to 2 alternatives and 9 voters\n'),
+    ('plurality', 'find R cc 2 9 3 4', 'none in part 3 of 4 up to 2 alternatives and 9 voters\n'),
+    ('elect', 'find R dimono 1 0', 'violated dimono\nalternatives 1\nvoters 0\nraised 1\nbecomes\n'),
+    ('pass(1)', 'find R neut 4 4', 'violated neut\nalternatives 2\nvoters 0\nexchanged 1 2\n'),
+    ('plurality', 'find R neut 3 2', 'none up to 3 alternatives and 2 voters\n'),
+    ('plurality', 'differ R S 3 2',
+     'differ\nalternatives 3\nvoters 2\n1: 1,2,3\n1: 2,3,1\n'
+     'first elected: 1 2 rejected: 3 deferred:\nsecond elected: 2 rejected: 1 3 deferred:\n'),
+    ('plurality', 'differ R S 2 5', 'same up to 2 alternatives and 5 voters\n'),
+    ('rev(rev(plurality))', 'differ R T 6 1000', 'same\n'))
+
 # profiles, and what `pairs` prints of them
 PAIRS = (
     (DIVIDED, 'alternatives 3\nvoters 9\nprefer 1: 0 4 4\nprefer 2: 5 0 7\nprefer 3: 5 2 0\ncondorcet winner: 2\n'),
@@ -249,6 +266,21 @@ def judgements(rows):
         rows.equal(f'synth {words}', answer(['synth', *words.split()], {})[1].decode().splitlines(), lines)
     for of in list(all_modules()) + terms_of_size(all_modules(), 2, {}):
         rows.equal(f'{of} is found', first_fast([of], [Property('nb')], 1), first_plain([of], [Property('nb')], 1))
+
+
+def small_cases(rows):
+    for text, words, said in FOUND:
+        files = {'R': rule(text), 'S': rule('seq(max(borda),elect)'), 'T': rule('rev(defer)')}
+        rows.equal(f'{words} of {text}', answer(words.split(), files)[1].decode(), said)
+    for alternatives, voters in ((1, 4), (2, 5), (3, 0), (3, 4), (4, 2)):
+        listed = [tuple(profile.lines) for profile in profiles_of(alternatives, voters)]
+        orders = factorial(alternatives)
+        rows.equal(f'profiles {alternatives} {voters}', len(set(listed)), comb(voters + orders - 1, voters))
+        rows.equal(f'each profile {alternatives} {voters} once', len(listed), len(set(listed)))
+    for profile in profiles_of(3, 3):
+        cases = list(cases_of(Property('mono'), profile))
+        rows.equal('cases of mono', len(cases), 1 + 2 * len(profile.lines))
+        rows.equal('they are lifts', [c for c in cases if not is_lift(c.before, c.after, c.raised)], [])
 
 
 def other_commands(rows):
@@ -367,7 +399,7 @@ def laws_of_certificates(rows, maker, case):
 
 def main():
     rows = Rows()
-    for part in (elections, refusals, judgements, other_commands, explanations, devices, recorded):
+    for part in (elections, refusals, judgements, other_commands, small_cases, explanations, devices, recorded):
         part(rows)
     for case in range(int(sys.argv[1]) if len(sys.argv) > 1 else 300):
         maker = CertificateMaker(f'rows/{case}')

@@ -11,7 +11,7 @@ from tokens import Fault, is_number, number_of, tokens_of
 
 COMMANDS = (
     'count', 'report', 'prove', 'check', 'synth', 'drill', 'listing', 'position', 'refute', 'simplify', 'batch',
-    'explain', 'pairs')
+    'explain', 'pairs', 'find', 'differ')
 
 # how many words may stand behind these commands, which are all names of files
 FILES = {
@@ -24,6 +24,9 @@ MOST_DRILLED_LINES = 100_000
 MOST_DRILLED_ALTERNATIVES = 128
 MOST_WEIGHTS = 1024
 GREATEST_WEIGHT = 1_000_000
+MOST_TRIED_ALTERNATIVES = 6
+MOST_TRIED_VOTERS = 1000
+MOST_PARTS = 10_000
 
 
 class Command(NamedTuple):
@@ -113,9 +116,28 @@ def refute_arguments(words):
     return unless_one_is_wanting([words[0], property] + words[2:4] + alternatives)
 
 
+def sizes(words):
+    """How many alternatives and voters a search goes up to."""
+    return [number_word(words[0], 1, MOST_TRIED_ALTERNATIVES), number_word(words[1], 0, MOST_TRIED_VOTERS)]
+
+
+def find_arguments(words):
+    if len(words) not in (4, 6):
+        return None
+    arguments = [words[0], property_word(words[1]), *sizes(words[2:4])]
+    if len(words) == 6:
+        parts = number_word(words[5], 1, MOST_PARTS)
+        arguments += [number_word(words[4], 1, parts or 0), parts]
+    return unless_one_is_wanting(arguments)
+
+
+def differ_arguments(words):
+    return unless_one_is_wanting(words[:2] + sizes(words[2:])) if len(words) == 4 else None
+
+
 OTHERS = {
     'prove': prove_arguments, 'synth': synth_arguments, 'drill': drill_arguments, 'position': position_arguments,
-    'refute': refute_arguments}
+    'refute': refute_arguments, 'find': find_arguments, 'differ': differ_arguments}
 
 
 def command_of(words, commands=COMMANDS):
