@@ -164,6 +164,7 @@ run_here() {
   status=$?
   if [ -n "$line" ]; then printf '%s\n' "$line" >&2; fi
   case $status in
+    0) say_nobody "$@" ;;
     2) say_how "$@" ;;
     3) say_refused_text "${line##*$'\n'}" "$program" "$@" ;;
     4) say_refused_profile "${line##*$'\n'}" "$program" "$@" ;;
