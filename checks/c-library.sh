@@ -166,6 +166,29 @@ try_little_memory() {
   if [ "$whole" -eq 0 ] || [ "$wanting" -eq 0 ]; then wrong "the bounds show nothing"; fi
 }
 
+# Prints the fields of the record $1 of vir_c, or the parameters of the call, one a line without their types' marks.
+exported() {
+  sed -n "/^pub struct $1 {/,/^}/s/^    pub \\([a-z_]*\\): usize,\$/\\1/p" "$top/crates/vir_c/src/sizes.rt"
+}
+
+# The header beside the export: types, layout and parameters by the compiler, names by the sources, and the version.
+try_header() {
+  local said version=$(<"$top/VERSION")
+  said=$(cc -std=c11 -Wall -Wextra -Werror -fsyntax-only -I "$built/include" "$top/c/tests/layout.c" 2>&1) ||
+    wrong "the header isn't that of the call: $said"
+  if [ "$(exported FileSizes | xargs)" != "name content" ] || [ "$(exported Told | xargs)" != "out err" ]; then
+    wrong "the records of vir_c have other fields than the header's"
+  fi
+  said=$(sed -n '/^pub extern "C" fn virage_call(/,/^)/s/^    \([a-z_]*\): &.*/\1/p' "$top/crates/vir_c/src/export.rt" |
+    xargs)
+  if [ "$said" != "word_sizes words file_sizes files out err told" ]; then
+    wrong "the call of vir_c has other parameters than the header's: $said"
+  fi
+  said=$(printf '#include "virage.h"\nVIRAGE_VERSION VIRAGE_VERSION_MAJOR.VIRAGE_VERSION_MINOR.VIRAGE_VERSION_PATCH\n' |
+    cc -E -P -I "$built/include" - | tail -n 1 | tr -d ' ')
+  if [ "$said" != "\"$version\"$version" ]; then wrong "the header has another version than $version: $said"; fi
+}
+
 # The shared library, as pkg-config finds it, where that is here.
 try_shared() {
   local words
@@ -206,6 +229,7 @@ echo "C library: $compared answers compared with the program's"
 try_rooms
 try_little_memory
 try_many
+try_header
 try_shared
 try_sanitized
 echo "C library: $faults faults"

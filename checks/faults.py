@@ -91,6 +91,17 @@ FAULTS = {'malloc': (7, b'out of memory\n'), 'open': (5, b'read fault\n'), 'read
           'write': (6, b'write fault\n')}
 
 
+def run_in_time(call, seconds, **how):
+    """What a call ends with. Where it takes longer, a new process is tried once, and that is said."""
+    for may_be_late in (True, False):
+        try:
+            return subprocess.run(call, capture_output=True, check=False, timeout=seconds, **how)
+        except subprocess.TimeoutExpired:
+            if not may_be_late:
+                raise
+            print(f'faults: once more, since it took over {seconds} s: {" ".join(call)}', flush=True)
+
+
 class Tried:
     """A program that is called in a folder, with a library loaded into it that makes calls fail."""
 
@@ -116,9 +127,9 @@ class Tried:
 
     def _run(self, words, environment, kept=()):
         try:
-            ended = subprocess.run(
-                [self.program, *words], cwd=self.folder, env=environment, stdin=subprocess.DEVNULL,
-                capture_output=True, check=False, timeout=60, pass_fds=kept)
+            ended = run_in_time(
+                [self.program, *words], 60, cwd=self.folder, env=environment, stdin=subprocess.DEVNULL,
+                pass_fds=kept)
         except subprocess.TimeoutExpired:
             return None, b'', b''
         return ended.returncode, ended.stdout, ended.stderr
@@ -209,8 +220,7 @@ def try_library(library, folder, room):
     calls, faults, made = CALLS.replace('\n\n', '\n').splitlines(), 0, 0
     for line in calls:
         words = line.split(' ')
-        ended = subprocess.run([tester, *files_of(folder, words), '--', *words], cwd=folder, capture_output=True,
-                               text=True, check=False, timeout=600)
+        ended = run_in_time([tester, *files_of(folder, words), '--', *words], 600, cwd=folder, text=True)
         *wrong, count = ended.stdout.splitlines() or ['0']
         print('\n'.join([f'{line}: {count} growths', *(f'  WRONG: {it}' for it in wrong[:10])]), flush=True)
         faults, made = faults + (ended.returncode != 0), made + int(count)

@@ -4,6 +4,9 @@
 . "$tables/told.sh"
 . "$tables/places.sh"
 
+# where a file may grow no further, whoever writes to it is told so, and not ended: then the status is 6
+trap '' XFSZ
+
 say() {
   echo "virage: $1" >&2
 }
@@ -151,16 +154,17 @@ calm_checks() {
 
 # Runs the program $1 with the further words and gives its status. Behind the program's line on standard error it says
 # more: which word is wrong, which file can't be read, or where a file has its fault. The program ends where this
-# process does, as far as the system can see to that; and where a file may grow no further, it is told so.
+# process does, as far as the system can see to that.
 run_here() {
   local program=$1 status line
   local -a leash=()
   shift
   if setpriv --pdeathsig TERM true 2>/dev/null; then leash=(setpriv --pdeathsig TERM); fi
-  { line=$(trap '' XFSZ; "${leash[@]}" "$program" "$@" 2>&1 >&3 3>&-); } 3>&1
+  { line=$("${leash[@]}" "$program" "$@" 2>&1 >&3 3>&-); } 3>&1
   status=$?
   if [ -n "$line" ]; then printf '%s\n' "$line" >&2; fi
   case $status in
+    0) say_nobody "$@" ;;
     2) say_how "$@" ;;
     3) say_refused_text "${line##*$'\n'}" "$program" "$@" ;;
     4) say_refused_profile "${line##*$'\n'}" "$program" "$@" ;;

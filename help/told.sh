@@ -239,6 +239,12 @@ say_unread_names() {
   [ "$found" -gt 0 ]
 }
 
+# Says after a count or a report where nobody has voted: no line of the profile says that somebody did.
+say_nobody() {
+  case $1 in count | report) ;; *) return 0 ;; esac
+  if [ -f "$3" ] && ! LC_ALL=C grep -aqm 1 '^[[:blank:]]*0*[1-9]' -- "$3"; then say "'$3': nobody voted"; fi
+}
+
 # Says after a read fault which file can't be read, and why.
 say_unread() {
   local form why found= i

@@ -53,7 +53,14 @@ class Setting(NamedTuple):
         return loaded(self.program).call(said, held)
 
     def run_in_a_folder(self, words, files):
-        """What the program answers in a new folder with these files."""
+        """What the program answers in a new folder with these files. Where it is too late, a new process is tried."""
+        said = self.run_once(words, files)
+        if said[0] == 'too late':
+            print(f'too late after {self.seconds} s, once more: {words}', file=sys.stderr)
+            said = self.run_once(words, files)
+        return said
+
+    def run_once(self, words, files):
         with tempfile.TemporaryDirectory(prefix='virage_model_') as folder:
             for name, content in files.items():
                 Path(folder, name).write_bytes(content)

@@ -1,6 +1,7 @@
 """The library in this process and the program: which is used, and that both answer the same."""
 
 import contextlib
+import ctypes
 import os
 import stat
 import tempfile
@@ -11,6 +12,7 @@ from pathlib import Path
 from typing import Any, Callable, Iterator, Optional
 
 import virage
+from virage.library import _Sizes, _Told
 
 from .places import PROFILES, RULES, profile, rule
 
@@ -135,6 +137,34 @@ class Paths(unittest.TestCase):
                 path.chmod(path.stat().st_mode | stat.S_IXUSR)
             os.symlink(script, Path(room, "link"))
             self.assertEqual(virage.Program(Path(room, "link")).direct().path, str(program.resolve()))
+
+
+class Layout(unittest.TestCase):
+    """The copies of the records of c/virage.h, of which c/tests/layout.c says the same to a C compiler."""
+
+    def test_records(self) -> None:
+        for record, names in ((_Sizes, ("name", "content")), (_Told, ("out", "err"))):
+            self.assertEqual(ctypes.sizeof(record), 16)
+            self.assertEqual([(name, kind) for name, kind in record._fields_], [(it, ctypes.c_size_t) for it in names])
+            self.assertEqual([getattr(record, name).offset for name in names], [0, 8])
+
+    def test_a_line_that_is_cut_is_want_of_memory(self) -> None:
+        cut = virage.Library.__new__(virage.Library)
+        for status, line, fault in (
+            (3, b"", virage.OutOfMemory),
+            (3, b"text refused: ", virage.OutOfMemory),
+            (4, b"profile refused: Repeated at line ", virage.OutOfMemory),
+            (5, b"", virage.OutOfMemory),
+            (2, b"", virage.UsageFault),
+            (3, b"text refused: Unexpected at byte 4\n", virage.TextRefused),
+            (4, b"profile refused: Short at line 3\n", virage.ProfileRefused),
+            (4, b"profile refused\n", virage.Broken),
+        ):
+            told = (status, b"", line)
+            with unittest.mock.patch.object(cut, "call", lambda *_, told=told: told, create=True):
+                with self.assertRaises(fault, msg=repr(line)) as raised:
+                    cut.run("drill", "0", "1", "1")
+                self.assertTrue(str(raised.exception) or status == 2)
 
 
 @unittest.skipUnless(library(), "there is no library")

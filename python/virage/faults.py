@@ -69,14 +69,18 @@ class Broken(Fault):
     """The program ended as it never should, or said something that isn't understood here."""
 
 
+def _not_understood(line: str) -> Fault:
+    return Broken(f"what is said of a refused file isn't understood: {line!r}")
+
+
 def _refused_text(line: str) -> Fault:
     found = re.fullmatch(r"text refused: (\w+) at byte (\d+)", line)
-    return TextRefused(found[1], int(found[2])) if found else Broken(line)
+    return TextRefused(found[1], int(found[2])) if found else _not_understood(line)
 
 
 def _refused_profile(line: str) -> Fault:
     found = re.fullmatch(r"profile refused: (\w+) at line (\d+)", line)
-    return ProfileRefused(found[1], int(found[2])) if found else Broken(line)
+    return ProfileRefused(found[1], int(found[2])) if found else _not_understood(line)
 
 
 _BY_STATUS: Dict[int, Callable[[str], Fault]] = {

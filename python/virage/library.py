@@ -8,7 +8,7 @@ import threading
 from ctypes import POINTER, byref, c_char_p, c_size_t, c_uint8, c_void_p
 from typing import List, Optional, Sequence, Tuple, Union
 
-from .faults import NoProgram, fault_of
+from .faults import NoProgram, OutOfMemory, fault_of
 from .profiles import Given
 from .program import Answer
 
@@ -90,6 +90,9 @@ class Library:
             else:
                 said.append(_bytes(word))
         status, out, err = self.call(said, files)
+        if 3 <= status <= 5 and not err.endswith(b"\n"):
+            # (the fault of a file is certain, and memory was wanting for the line that tells it)
+            raise OutOfMemory(f"memory was wanting to say why the status is {status}")
         if status > 1:
             raise fault_of(status, err.decode("utf-8", "replace").splitlines(), [])
         return Answer(status == 1, out)
