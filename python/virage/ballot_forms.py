@@ -394,7 +394,8 @@ class _Listed:
         groups = self._lists.groups(row, text)
         if self._in_head and self._in_head <= set(self._names.labels):
             why = "the head of the column lists names that stand here too: is it a ballot?"
-            raise BallotsRefused(row, why, ["--form orders reads a file without heads; --list COLUMN takes it as the head"])
+            hints = ["--form orders reads a file without heads", "--list COLUMN takes it as the head"]
+            raise BallotsRefused(row, why, hints)
         return order_text(groups)
 
 
@@ -602,7 +603,8 @@ def _by_heads(find: _Heads, left: Sequence[int]) -> _Plan:
                  "--form orders reads lines without heads, as 'tea, milk, soup'"]
         raise BallotsRefused(find.row, "the heads are numbers; or is the first row a ballot?", hints)
     if sum(head.endswith("]") for head in called) > 1:
-        hints = ["--heads reads what stands in brackets, as online forms write it", "--ranks takes the heads as they are"]
+        hints = ["--heads reads what stands in brackets, as online forms write it",
+                 "--ranks takes the heads as they are"]
         raise BallotsRefused(find.row, f"the heads have brackets, as {quoted(called[-1])}", hints)
     others = [column for column, place in zip(left, places) if place is None]
     if not others:

@@ -360,8 +360,8 @@ class Conversion:
             return [missing]
         unknown = next((number for number in missing if number not in self._worst), None)
         if unknown is not None:
-            name = self._called(unknown)
-            raise BallotsRefused(row, f"the ballot doesn't list {name}, and neither does the order of --incomplete worst")
+            why = f"the ballot doesn't list {self._called(unknown)}, and neither does the order of --incomplete worst"
+            raise BallotsRefused(row, why)
         return [[number] for number in sorted(missing, key=self._worst.__getitem__)]
 
     def _extended(self, groups: Groups, row: int, voters: int, made: int) -> int:

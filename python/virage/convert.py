@@ -24,9 +24,9 @@ is told on standard error, and stands at the end of the profile."""
 _EXAMPLES = """\
 A COLUMN is named by its head, or by its number from 1. NAMES are joined by commas: tea,milk,"Ito, K."
 examples:
-  virage-convert answers.csv --heads -o votes.soc
-  virage-convert ranks.csv --skip voter --incomplete drop -o votes.soc
-  virage-convert votes.toc --ties all >votes.soc
+  {called} answers.csv --heads -o votes.soc
+  {called} ranks.csv --skip voter --incomplete drop -o votes.soc
+  {called} votes.toc --ties all >votes.soc
 """
 
 
@@ -36,13 +36,15 @@ class _Words(argparse.ArgumentParser):
     def error(self, message: str) -> NoReturn:
         print("usage fault", file=sys.stderr)
         if "required: FILE" in message:
-            message = "the file is the first word: virage-convert FILE [OPTION..]"
+            message = f"the file is the first word: {self.usage}"
         print(f"  {message}; --help says more", file=sys.stderr)
         raise SystemExit(_USAGE)
 
 
-def _parser(called: str) -> argparse.ArgumentParser:
-    words = _Words(called, f"{called} FILE [OPTION..]", _ABOUT, _EXAMPLES, allow_abbrev=False,
+def _parser() -> argparse.ArgumentParser:
+    # (the script `virage` says how it is called)
+    called = os.environ.get("VIRAGE_CALLED") or "virage-convert"
+    words = _Words(called, f"{called} FILE [OPTION..]", _ABOUT, _EXAMPLES.format(called=called), allow_abbrev=False,
                    formatter_class=argparse.RawDescriptionHelpFormatter)
     words.add_argument("file", metavar="FILE", help="the file of ballots; - is standard input")
     words.add_argument("-o", "--output", metavar="SOC", help="the profile to write; else it is standard output")
@@ -138,9 +140,9 @@ def _said(line: str) -> None:
     print(line, file=sys.stderr)
 
 
-def main(words: Sequence[str], called: str = "virage-convert") -> int:
-    """Converts the file that the words name, and gives the status."""
-    parser = _parser(called)
+def main(words: Optional[Sequence[str]] = None) -> int:
+    """Converts the file that the words name, or those of the call, and gives the status."""
+    parser = _parser()
     given = parser.parse_args(words)
     try:
         layout, choices = _layout(given), _chosen(given)
@@ -167,6 +169,3 @@ def main(words: Sequence[str], called: str = "virage-convert") -> int:
         _said(line)
     return 0
 
-
-if __name__ == "__main__":
-    sys.exit(main(sys.argv[1:]))
