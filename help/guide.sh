@@ -138,7 +138,26 @@ tell_summary() {
   printf '\nA file may be a pipe, as /dev/stdin. The examples are run in %s.\n' "$1"
   printf "'%s help', -h or --help prints this, and --version the version.\n" "$called"
   printf "'%s help COMMAND' says more of a command, as COMMAND --help does, and\n" "$called"
-  printf "'%s help properties' has the properties.\n%s\n" "$called" "$2"
+  printf "'%s help properties' has the properties.\n" "$called"
+  printf "'%s convert FILE' makes a profile of a table, as of a form's answers, and\n" "$called"
+  printf "of other files of ballots; '%s help convert' says more.\n%s\n" "$called" "$2"
+}
+
+# Makes a profile of a file of ballots, or helps with that, where the words behind $1 ask for it: the script $1 does so,
+# which needs Python, and this ends with its status. Where the words ask for something else it does nothing.
+convert_if_asked() {
+  local script=$1
+  shift
+  case "${1-} ${2-}" in
+    'convert '*) shift ;;
+    'help convert') set -- --help ;;
+    *) return ;;
+  esac
+  if ! command -v python3 >/dev/null; then
+    say "convert needs Python, and there is no python3"
+    exit 69
+  fi
+  VIRAGE_CALLED="$called convert" exec python3 "$script" "$@"
 }
 
 # Sets `form` to the words of the command $1, where it is one.

@@ -207,6 +207,38 @@ wrong_in_line() {
     }' "$2"
 }
 
+# Prints what other ballots the file $2 looks like, which is refused for the kind $1, and words that it is converted with.
+other_ballots() {
+  local first
+  case $1 in
+    WrongType) echo "has another DATA TYPE:" && return ;;
+    Tie) echo "has ties:" && return ;;
+    Short) echo "has an incomplete ballot; if that is meant:" && return ;;
+    NoAlternativeCount | NoColon | BadCount) ;;
+    *) return ;;
+  esac
+  first=$(head -c 4096 -- "$2" | LC_ALL=C tr -d '\000\r\357\273\277\376\377' | sed -n '/[^[:blank:]]/{p;q}')
+  case $first in '#'*) return ;; esac
+  if [[ $first =~ ^[0-9]+$ ]]; then
+    echo "looks like PrefLib's older layout:"
+  elif [[ $first =~ ^[0-9]+[[:blank:]]+[0-9]+$ ]]; then
+    echo "looks like a .blt file:"
+  elif [[ $first == *[,\;$'\t']* || ${2,,} =~ \.(csv|tsv|tab)$ ]]; then
+    echo "looks like a table:"
+  elif [[ $first == *'>'* ]]; then
+    echo "looks like lines of orders: --form orders"
+  fi
+}
+
+# Says how the file $2, which is refused for the kind $1, becomes a profile, where it looks like other ballots.
+say_converter() {
+  local what more
+  what=$(other_ballots "$1" "$2")
+  [ -n "$what" ] || return 0
+  more=${what#*:}
+  say "'$2' ${what%%:*}: $called convert $(printf '%q' "$2")$more -o votes.soc"
+}
+
 # The same after a refused profile.
 say_refused_profile() {
   local program=$2 kind number form file i shown
@@ -239,4 +271,5 @@ say_refused_profile() {
       shown=$(wrong_in_line "$kind" "$file" "$number")
       if [ -n "$shown" ]; then say_quoted "$shown"; fi ;;
   esac
+  say_converter "$kind" "$file"
 }

@@ -31,6 +31,7 @@ from .answers import (
     read_certificate,
     read_report,
 )
+from .ballots import Ballots, read_ballots
 from .commands import (
     batch,
     check,
@@ -50,6 +51,7 @@ from .derivations import Derivation, Finding, Holds, Reason, Underived
 from .engines import engine
 from .explanations import Account, Explanation, Pairs, Visit, read_explanation, read_pairs
 from .faults import (
+    BallotsRefused,
     Broken,
     Fault,
     NoCounter,
@@ -74,6 +76,8 @@ from .terms import Term
 # (`map` stands not here, so that `from virage import *` leaves Python's own)
 __all__ = [
     "Account",
+    "Ballots",
+    "BallotsRefused",
     "Broken",
     "BuildWarning",
     "CaseVerdict",
@@ -130,6 +134,7 @@ __all__ = [
     "pairs",
     "position",
     "prove",
+    "read_ballots",
     "read_certificate",
     "read_explanation",
     "read_pairs",

@@ -3,7 +3,7 @@
 from __future__ import annotations
 
 import re
-from typing import Callable, Dict, List, Optional
+from typing import Callable, Dict, List, Optional, Sequence
 
 
 class Fault(Exception):
@@ -43,6 +43,19 @@ class ProfileRefused(Fault):
         super().__init__(f"{kind} at line {line}")
         self.kind = kind
         self.line = line
+
+
+class BallotsRefused(Fault):
+    """A file of ballots isn't converted: something in it is wrong, or needs a choice that wasn't named.
+
+    `row` is where, counted from 1, `why` what it is, and `choices` what may be named, or is meant.
+    """
+
+    def __init__(self, row: int, why: str, choices: Sequence[str] = ()) -> None:
+        super().__init__("\n  ".join([f"row {row}: {why}", *choices]))
+        self.row = row
+        self.why = why
+        self.choices = tuple(choices)
 
 
 class ReadFault(Fault):
