@@ -4,9 +4,13 @@ from __future__ import annotations
 
 from typing import Iterable, List, Mapping, Optional, Sequence, Tuple
 
+from .answers import Result
 from .explanations import Account, Explanation, Pairs, Visit
 from .markup import Markup, element, joined, term_code
 from .profiles import Profile
+
+# so many members of a list are shown at once; the others are folded
+LISTED = 10
 
 # what is drawn of larger things: the first steps; no table of more alternatives, rounds or lines
 _STEPS = 400
@@ -23,14 +27,58 @@ def told(number: int, names: Mapping[int, str]) -> Markup:
     shown = [element("span", str(number), class_="number")]
     if number in names:
         name = names[number]
-        shown.append(element("bdi", name if len(name) <= _SHOWN else name[:_SHOWN] + "…", class_="name"))
+        shown += [" ", element("bdi", name if len(name) <= _SHOWN else name[:_SHOWN] + "…", class_="name")]
     return joined(*shown)
 
 
 def _all_told(numbers: Iterable[int], names: Mapping[int, str]) -> Markup:
-    listed = [told(number, names) for number in sorted(numbers)]
+    """These alternatives in a sentence, and of many how many more there are."""
+    ascending = sorted(numbers)
+    listed = [told(number, names) for number in ascending[:LISTED]]
     between = [part for one in listed for part in (Markup(", "), one)][1:]
-    return joined(*between) if listed else Markup("nobody")
+    more = len(ascending) - len(listed)
+    return joined(*between, *([f" and {more:,} more"] if more else []))
+
+
+# ---- the result beside the pairs
+
+
+def facts(result: Result, voters: int, explanation: Optional[Explanation], pairs: Optional[Pairs]) -> Iterable[Markup]:
+    """What is to be known of a result besides the three sets: that nobody voted, a tie, a Condorcet winner who loses."""
+    if voters == 0:
+        yield element("p", "Nobody voted, so that no opinion stands behind this result.", class_="fact")
+    if len(result.elected) > 1:
+        many = f"{len(result.elected):,} are elected together: this rule doesn't choose among them."
+        yield element("p", many, class_="fact")
+    if pairs is None or pairs.winner is None or result.elected == {pairs.winner}:
+        return
+    yield _passed_over(pairs.winner, result, explanation, pairs.names)
+
+
+def _passed_over(winner: int, result: Result, explanation: Optional[Explanation], names: Mapping[int, str]) -> Markup:
+    if winner in result.elected:
+        fate = ", and isn't elected alone"
+    elif winner in result.deferred:
+        fate = ", and isn't elected but deferred"
+    else:
+        fate = f", and isn't elected{_when(winner, explanation)}"
+    who = element("strong", told(winner, names))
+    said = " wins against each other alternative in a duel (it is the Condorcet winner)"
+    return element("p", who, said, fate, ".", class_="fact")
+
+
+def _when(one: int, explanation: Optional[Explanation]) -> str:
+    """Where a rejected alternative goes, if that is a round of a loop."""
+    found = None if explanation is None else _round_of_leaving(explanation.account, one)
+    return "" if found is None else f": it goes in round {found}"
+
+
+def _round_of_leaving(account: Account, one: int) -> Optional[int]:
+    """The round of the first loop in which an alternative is rejected, if it is in one."""
+    below = enumerate(account.below, 1)
+    if account.visit.term.word in ("loop", "until"):
+        return next((number for number, part in below if one in part.visit.result.rejected), None)
+    return next((found for _, part in below for found in [_round_of_leaving(part, one)] if found), None)
 
 
 # ---- the steps
@@ -40,9 +88,9 @@ def steps(explanation: Explanation) -> Iterable[Markup]:
     """The steps of a rule, folded where they are of a composition."""
     yield element(
         "p",
-        "Each step is a part of the rule that was asked about some alternatives. Scores are counted on the ballots "
-        "from which all others are struck. Who checks the scores on the ballots, and that each step follows from the "
-        "steps within it, has checked the result.",
+        "Each step is a part of the rule. It decides on some alternatives, and all others are struck from the ballots "
+        "before it counts. You can check the result by hand: count the scores on the ballots, and see that each step "
+        "follows from the steps inside it.",
     )
     if len(explanation.visits) > _STEPS:
         many = f"There are {len(explanation.visits):,} steps, too many to be drawn. The text of explain has them all."
@@ -82,11 +130,11 @@ def _asked(visit: Visit, names: Mapping[int, str]) -> Markup:
     said: List[Markup] = []
     for verb, numbers in made:
         if numbers:
-            who = _all_told(numbers, names) if len(numbers) <= _ALTERNATIVES else f"{len(numbers):,} alternatives"
-            said += [joined(Markup("; " if said else ""), f"{verb} ", who)]
-    about = "nobody" if not visit.domain else f"{len(visit.domain):,} of them" if len(visit.domain) > 1 else "one"
-    outcome = joined(*said) if said else Markup("and has nobody to decide on")
-    return joined(term_code(head), " ", element("span", f"asked about {about}: ", class_="gloss"), outcome)
+            said += [joined(Markup("; " if said else ""), f"{verb} ", _all_told(numbers, names))]
+    count = len(visit.domain)
+    about = "nobody" if not count else f"{count:,} alternatives" if count > 1 else "one alternative"
+    outcome = joined(*said) if said else Markup("so nothing happens")
+    return joined(term_code(head), " ", element("span", f"decides on {about}: ", class_="gloss"), outcome)
 
 
 def _scored(visit: Visit, names: Mapping[int, str]) -> Iterable[Markup]:
@@ -117,12 +165,37 @@ def _table(whole: Visit, visits: Sequence[Visit], titles: Sequence[str], names: 
     least, most = min(0, *scores), max(0, *scores)
     head = element("tr", element("th", "Alternative", scope="col"), *(element("th", it, scope="col") for it in titles))
     rows = []
-    for one in sorted(whole.domain):
+    for one in _by_leaving(whole.domain, visits):
         cells = [_cell(visit, one, least, most) for visit in visits]
         rows.append(element("tr", element("th", told(one, names), scope="row"), *cells))
     caption = element("caption", "Scores by which ", term_code(str(visits[0].term)), " goes")
-    table = element("table", caption, element("thead", head), element("tbody", *rows), class_="scores")
-    return element("div", table, class_="wide", tabindex="0", role="group", aria_label="scores")
+    shown = [_scores(head, rows[:LISTED], caption)]
+    if len(rows) > LISTED:
+        shown.append(element("details", more(len(rows) - LISTED), _scores(head, rows[LISTED:]), class_="more"))
+    return element("div", *shown, class_="wide", tabindex="0", role="group", aria_label="scores")
+
+
+def _scores(head: Markup, rows: Sequence[Markup], *caption: Markup) -> Markup:
+    return element("table", *caption, element("thead", head), element("tbody", *rows), class_="scores")
+
+
+def more(number: int) -> Markup:
+    """The summary of what is folded of a list."""
+    return element("summary", f"and {number:,} more")
+
+
+def _by_leaving(domain: Iterable[int], visits: Sequence[Visit]) -> Sequence[int]:
+    """First who stays, then who leaves last; of one round, by score."""
+
+    def place(one: int) -> Tuple[int, int, int]:
+        last = max((turn for turn, visit in enumerate(visits) if one in (visit.scores or {})), default=-1)
+        if last < 0:
+            return (1, 0, one)
+        visit = visits[last]
+        left = last if one in visit.result.rejected else len(visits)
+        return (-left, -(visit.scores or {})[one], one)
+
+    return sorted(domain, key=place)
 
 
 def _cell(visit: Visit, one: int, least: int, most: int) -> Markup:
@@ -130,10 +203,11 @@ def _cell(visit: Visit, one: int, least: int, most: int) -> Markup:
         return element("td", "", class_="gone")
     score = visit.scores[one]
     fate = "rejected" if one in visit.result.rejected else "elected" if one in visit.result.elected else ""
-    shown = [element("span", f"{score:,}", class_="score"), _bar(score, least, most)]
+    line = [element("span", f"{score:,}", class_="score")]
     if fate:
-        shown.append(element("span", "✕ rejected" if fate == "rejected" else "✓ elected", class_="fate"))
-    return element("td", *shown, **({"class_": fate} if fate else {}))
+        line += [" ", element("span", "✕ rejected" if fate == "rejected" else "✓ elected", class_="fate")]
+    bar = _bar(score, least, most)
+    return element("td", element("div", *line, class_="line"), bar, **({"class_": fate} if fate else {}))
 
 
 def _bar(score: int, least: int, most: int) -> Markup:
@@ -151,17 +225,17 @@ def _bar(score: int, least: int, most: int) -> Markup:
 def duels(pairs: Pairs) -> Iterable[Markup]:
     """Who is preferred to whom, and the Condorcet winner."""
     if pairs.winner is None:
-        yield element("p", "There is no Condorcet winner: nobody is preferred to each other one by more voters.")
+        yield element("p", "There is no Condorcet winner: nobody wins against each other alternative in a duel.")
     else:
-        win = " is the Condorcet winner: preferred to each other one by more voters than the other way round."
+        win = " is the Condorcet winner: against each other alternative, more voters prefer it than not."
         yield element("p", element("strong", told(pairs.winner, pairs.names)), win)
     if pairs.alternatives > _ALTERNATIVES:
         yield element("p", f"The table of {pairs.alternatives:,} alternatives isn't drawn. The text of pairs has it.")
         return
     yield element(
         "p",
-        "In each row: how many voters prefer the alternative of the row to that of the column, and how many more they "
-        "are than those of the other opinion. A win has a mark.",
+        "Each row says how many voters prefer its alternative to that of the column, and by how many they outnumber "
+        "the others. A win has the mark ▲.",
     )
     numbers = range(1, pairs.alternatives + 1)
     head = element("tr", element("td", ""), *(element("th", told(it, pairs.names), scope="col") for it in numbers))
@@ -208,11 +282,14 @@ def is_drawn(profile: Optional[Profile]) -> bool:
 def sections(
     explanation: Optional[Explanation], pairs: Optional[Pairs], profile: Optional[Profile]
 ) -> Iterable[Tuple[str, str, Tuple[Markup, ...]]]:
-    """The id, the title and the content of each section."""
+    """The id, the title and the content of each section. Ballots of many lines are folded."""
     names = explanation.names if explanation else pairs.names if pairs else profile.names if profile else {}
-    if profile is not None and is_drawn(profile):
-        yield "ballots", "The ballots", tuple(ballots(profile, names))
     if explanation is not None:
         yield "account", "How the result came about", tuple(steps(explanation))
     if pairs is not None:
         yield "pairs", "Who is preferred to whom", tuple(duels(pairs))
+    if profile is not None and is_drawn(profile):
+        columns = tuple(ballots(profile, names))
+        few = len(profile.lines) <= LISTED
+        show = element("summary", f"Show {len(profile.lines):,} ballots")
+        yield "ballots", "The ballots", columns if few else (element("details", show, *columns),)

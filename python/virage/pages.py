@@ -6,8 +6,9 @@ import base64
 import hashlib
 import re
 from pathlib import Path
-from typing import Dict, Iterable, List, Mapping, Optional, Set
+from typing import Dict, Iterable, List, Mapping, Optional, Sequence, Set, Tuple
 
+from .account_pages import LISTED, facts, more
 from .account_pages import sections as account_sections
 from .answers import Report, Result
 from .derivations import Derivation, Finding, Holds, Reason, Underived
@@ -19,6 +20,15 @@ from .terms import Term
 
 _STYLE = Path(__file__).with_name("page.css")
 
+# the id of a section, its title, and what it has
+Part = Tuple[str, str, Tuple[Markup, ...]]
+
+_ALWAYS = (
+    "These are true of this rule whoever votes and however: on every set of alternatives and every profile. Each is "
+    "derived by rules that are proved to be sound."
+)
+_OPEN = "Of these nothing is said: they have no derivation, which doesn't mean that they are false."
+
 # where a judgement on two terms is explained
 _NOTES = {"Disjoint terms": "property-disj"}
 
@@ -27,6 +37,9 @@ _SHOWN = 200
 
 # of a longer term this much is shown beside a judgement on it
 _TERM_SHOWN = 2000
+
+# a tree of more parts is folded
+_PARTS_SHOWN = 30
 
 # in a derivation of more steps each one that stands in it several times is drawn once
 _DRAWN_IN_FULL = 1000
@@ -50,6 +63,28 @@ GLOSSES: Dict[str, str] = {
     "until": "again and again, until their number is at most {number} or a turn defers all",
 }
 
+# of each property a question that is answered by always or by not always
+QUESTIONS: Dict[str, str] = {
+    "ne": "Is nobody elected?",
+    "ea": "Is everybody elected?",
+    "el": "Is somebody elected?",
+    "defers": "Is the number of deferred alternatives exactly {number}?",
+    "rejects": "Is the number of rejected alternatives exactly {number}?",
+    "elim": "Of more than {number}, is the number of rejected ones exactly {number}?",
+    "nb": "Does somebody escape rejection?",
+    "decr": "Is somebody rejected, where there are two or more?",
+    "dli": "Does the result stay the same when a deferred alternative gets more support?",
+    "imono": "When a winner gets more support, do the winners stay the same, or does it win alone?",
+    "dimono": "Is nobody elected, and do the deferred stay the same when one of them gets more support?",
+    "dmono": "Is a deferred alternative that gets more support still deferred?",
+    "mono": "Does a winner that gets more support still win?",
+    "cc": "Does the Condorcet winner win, alone?",
+    "dcc": "Is the Condorcet winner deferred, and are all others rejected?",
+    "cprog": "With a Condorcet winner: is it deferred, nobody elected yet, and somebody else rejected?",
+    "ccomp": "Is the Condorcet winner safe: not rejected, and no other elected?",
+    "neut": "Are all alternatives treated alike, whatever their numbers?",
+}
+
 SCORES: Dict[str, str] = {
     "plurality": "number of first places",
     "borda": "Borda score",
@@ -64,15 +99,20 @@ def page(
     explanation: Optional[Explanation] = None,
     pairs: Optional[Pairs] = None,
     profile: Optional[Profile] = None,
+    name: Optional[str] = None,
 ) -> str:
-    """The page of a report, as the text of one file; with how its result came about, the pairs and the ballots."""
+    """The page of a report, as the text of one file; with how its result came about, the pairs and the ballots.
+
+    `name` is what the rule is called: it heads the page.
+    """
     style = _STYLE.read_text(encoding="utf-8")
     if explanation is not None and (explanation.term, explanation.result) != (report.term, report.result):
         raise ValueError("the explanation isn't that of the report's rule and result")
-    told = (_section(id_, title, *content) for id_, title, content in account_sections(explanation, pairs, profile))
-    first, *others = _sections(report)
-    body = joined(_header(report), element("main", first, *told, *others), _footer())
-    return whole_page(f"Report: {report.term}", style, body)
+    first, *others = _sections(report, tuple(facts(report.result, report.voters, explanation, pairs)))
+    parts = [first, *account_sections(explanation, pairs, profile), *others]
+    told = (_section(id_, title, *content) for id_, title, content in parts)
+    body = joined(_header(report, name), _contents(parts), element("main", *told), _footer())
+    return whole_page(f"Report: {name or report.term}", style, body)
 
 
 def whole_page(title: str, style: str, body: str) -> str:
@@ -116,14 +156,21 @@ def _head(title: str, style: str) -> Markup:
     )
 
 
-def _header(report: Report) -> Markup:
-    size = f"{_number(report.alternatives, 'alternative')}, {_number(report.voters, 'voter')}"
+def _header(report: Report, name: Optional[str]) -> Markup:
+    size = f"{_number(report.alternatives, 'alternative')} and {_number(report.voters, 'voter')}"
+    kind = [element("p", "Report on a voting rule", class_="kind")] if name else []
     return element(
         "header",
-        element("p", "Report on a voting rule", class_="kind"),
-        element("h1", term_code(str(report.term))),
-        element("p", f"Counted on a profile of {size}."),
+        *kind,
+        element("h1", name or "Report on a voting rule"),
+        element("p", term_code(_cut(str(report.term)))),
+        element("p", f"Counted on ballots with {size}."),
     )
+
+
+def _contents(parts: Iterable[Part]) -> Markup:
+    links = (element("li", element("a", title, href=f"#{id_}")) for id_, title, _ in parts)
+    return element("nav", element("ul", *links, role="list"), aria_label="Contents")
 
 
 def _footer() -> Markup:
@@ -131,13 +178,14 @@ def _footer() -> Markup:
     return element("footer", element("p", said))
 
 
-def _sections(report: Report) -> Iterable[Markup]:
+def _sections(report: Report, told: Tuple[Markup, ...]) -> Iterable[Part]:
     printed = element("pre", report.text.decode("utf-8", "surrogateescape"), tabindex="0")
-    yield _section("result", "Who is elected", _result(report.result))
-    yield _section("rule", "The rule", _rule(report.term))
-    yield _section("properties", "What holds on every profile", *_properties(report.findings))
-    yield _section("meaning", "What the words mean", *_meanings(report))
-    yield _section("text", "The report as it was printed", element("details", element("summary", "Show it"), printed))
+    yield "result", "Who is elected", (_result(report.result), *told)
+    yield "rule", "The rule", (_folded_rule(report.term),)
+    yield "properties", "What holds on every profile", tuple(_properties(report.findings))
+    meanings = element("details", element("summary", "Properties and rules of derivation"), *_meanings(report))
+    yield "meaning", "What the words mean", (meanings,)
+    yield "text", "The report as it was printed", (element("details", element("summary", "Show it"), printed),)
 
 
 def _section(id_: str, title: str, *content: Markup) -> Markup:
@@ -152,15 +200,23 @@ def _number(number: int, noun: str) -> str:
 
 
 def _result(result: Result) -> Markup:
-    sets = (("Elected", result.elected), ("Rejected", result.rejected), ("Deferred", result.deferred))
-    return element("div", *(_set(word, numbers, result.names) for word, numbers in sets), class_="sets")
+    """The three sets. One that is empty is told in a line, but for the first."""
+    rest = (("Rejected", result.rejected), ("Deferred", result.deferred))
+    sets = [_set("Elected", result.elected, result.names)]
+    sets += [_set(word, numbers, result.names) for word, numbers in rest if numbers]
+    empty = " and ".join(f"nobody is {word.lower()}" for word, numbers in rest if not numbers)
+    line = [element("p", f"{empty[0].upper()}{empty[1:]}.", class_="kind")] if empty else []
+    return joined(element("div", *sets, class_="sets"), *line)
 
 
 def _set(word: str, numbers: Iterable[int], names: Mapping[int, str]) -> Markup:
     members = [_alternative(i, names) for i in sorted(numbers)]
-    listed = element("ul", *members, role="list") if members else element("p", "nobody")
+    listed = [element("ul", *members[:LISTED], role="list") if members else element("p", "nobody")]
+    if len(members) > LISTED:
+        rest = element("ul", *members[LISTED:], role="list")
+        listed.append(element("details", more(len(members) - LISTED), rest, class_="more"))
     heading = element("h3", f"{word} ", element("span", f"{len(members):,}", class_="count"))
-    return element("div", heading, listed, class_=word.lower())
+    return element("div", heading, *listed, class_=word.lower())
 
 
 def _alternative(number: int, names: Mapping[int, str]) -> Markup:
@@ -168,12 +224,20 @@ def _alternative(number: int, names: Mapping[int, str]) -> Markup:
     if number in names:
         name = names[number]
         cut = "" if len(name) <= _SHOWN else f"… ({len(name):,} characters)"
-        shown.append(element("bdi", name[:_SHOWN], class_="name"))
+        shown += [" ", element("bdi", name[:_SHOWN], class_="name")]
         shown += [element("span", cut)] if cut else []
     return element("li", joined(*shown))
 
 
 # ---- the rule
+
+
+def _folded_rule(term: Term) -> Markup:
+    """The rule as a tree, folded where it has many parts."""
+    parts = sum(1 for _ in term.preorder())
+    if parts <= _PARTS_SHOWN:
+        return _rule(term)
+    return element("details", element("summary", f"Show its {parts:,} parts"), _rule(term))
 
 
 def _rule(term: Term) -> Markup:
@@ -203,46 +267,55 @@ def _gloss(term: Term) -> str:
 
 
 def _properties(findings: Mapping[str, Finding]) -> Iterable[Markup]:
-    derived = sum(isinstance(found, Holds) for found in findings.values())
-    yield element(
-        "p",
-        f"{derived} of {len(findings)} properties are derived. What holds has a derivation by rules that are proved to "
-        "be sound: it is true of this rule on every set of alternatives and every profile. Of what is not derived "
-        "these rules give no derivation, which doesn't mean that it is false.",
-    )
-    headings = (element("th", word, scope="col", role="columnheader") for word in ("Property", "Finding", "Why"))
-    head = element("thead", element("tr", *headings, role="row"), role="rowgroup")
-    rows = element("tbody", *(_row(found) for found in findings.values()), role="rowgroup")
-    yield element("table", head, rows, role="table", aria_labelledby="properties", class_="findings")
+    """The properties, grouped by what is found of each."""
+    always = [found for found in findings.values() if isinstance(found, Holds)]
+    open_ = [found for found in findings.values() if isinstance(found, Underived)]
+    yield element("p", f"Of {len(findings)} properties {len(always)} are always true of this rule. {len(open_)} are open.")
+    yield from _group("always", "Always", _ALWAYS, always)
+    yield from _group("open", "Open", _OPEN, open_)
 
 
-def _row(found: Finding) -> Markup:
+def _group(kind: str, heading: str, says: str, members: Sequence[Finding]) -> Iterable[Markup]:
+    if not members:
+        return
+    count = element("span", str(len(members)), class_="count")
+    yield element("h3", f"{heading} ", count)
+    yield element("p", says, class_="kind")
+    yield element("ul", *(_line(kind, found) for found in members), role="list", class_="findings")
+
+
+def _line(kind: str, found: Finding) -> Markup:
+    """A property in a line, its question below, and folded why."""
     number = re.search(r"[0-9]+", found.property)
     term = table().property(found.property).term
     called = re.sub(r"\bk$", number[0], term) if number else term
-    what = joined(called, " ", _property_link(found.property))
-    holds = isinstance(found, Holds)
-    sign = element("span", "✓" if holds else "–", aria_hidden="true", class_="sign")
-    return element(
-        "tr",
-        element("th", what, scope="row", role="rowheader"),
-        element("td", sign, " holds" if holds else " not derived", role="cell"),
-        element("td", _why(found), role="cell"),
-        role="row",
-        class_="holds" if holds else "underived",
-    )
+    sign = element("span", "✓" if kind == "always" else "?", aria_hidden="true", class_="sign")
+    finding = element("span", f" {kind}", class_="found")
+    what = element("span", element("b", called), " ", element("code", found.property))
+    asked = element("span", question(found.property), class_="question")
+    summary = element("summary", sign, finding, " ", what, " ", asked)
+    folded = element("details", summary, *why(found))
+    return element("li", folded, class_=f"finding {kind}", data_property=found.property)
 
 
-def _why(found: Finding) -> Markup:
+def question(property_: str) -> str:
+    """The question that is asked of a property, as `defers(2)`."""
+    word, _, rest = property_.partition("(")
+    number = rest.rstrip(")")
+    return QUESTIONS[word].replace("{number}", "one" if number == "1" else number)
+
+
+def why(found: Finding) -> Iterable[Markup]:
+    """What stands behind a finding, folded."""
     if isinstance(found, Holds):
-        return _derivation(found.derivation)
+        return _derivation(found.property, found.derivation)
     return _reasons(found)
 
 
-def _derivation(derivation: Derivation) -> Markup:
+def _derivation(property_: str, derivation: Derivation) -> Iterable[Markup]:
     steps = _number(derivation.size, "step")
-    summary = element("summary", f"Derivation by {derivation.rule}, {steps}")
-    return element("details", summary, _derived_tree(derivation))
+    yield element("p", _property_link(property_), f" is derived in {steps}, the last one by ", _rule_link(derivation.rule))
+    yield _derived_tree(derivation)
 
 
 def _derived_tree(derivation: Derivation) -> Markup:
@@ -263,12 +336,17 @@ def _derived(derivation: Derivation, drawn: Optional[Set[int]]) -> Markup:
     return _node(told, [_derived(premise, drawn) for premise in derivation.premises])
 
 
-def _reasons(found: Underived) -> Markup:
-    if not found.reasons:
-        return element("p", "No rule of derivation concludes it of a rule of this form.")
+def _reasons(found: Underived) -> Iterable[Markup]:
+    """Why a property isn't derived."""
     fit = len(found.reasons)
-    summary = "One rule fits, and lacks a premise" if fit == 1 else f"{fit} rules fit, and each lacks a premise"
-    return element("details", element("summary", summary), element("ul", *map(_reason, found.reasons)))
+    said = (
+        " isn't derived: no rule of derivation concludes it of a rule of this form." if fit == 0
+        else " isn't derived: one rule of derivation fits, and lacks a premise." if fit == 1
+        else f" isn't derived: {fit} rules of derivation fit, and each lacks a premise."
+    )
+    yield element("p", _property_link(found.property), said)
+    if fit:
+        yield element("ul", *map(_reason, found.reasons))
 
 
 def _reason(reason: Reason) -> Markup:

@@ -1,11 +1,13 @@
-"""`python3 -m virage.report_page` reads a report from standard input and writes its page to standard output.
+"""`python3 -m virage.report_page [RULE]` reads a report from standard input and writes its page to standard output.
 
+Where a rule file is named the page is headed by the name of the rule, which is that of the file's last definition.
 Behind the report may stand what `explain`, what `pairs` and what `cat` of the profile prints, in this order, or some of
 them: each is shown too.
 """
 
 import re
 import sys
+from pathlib import Path
 from typing import List, Optional
 
 from . import Profile, page, read_explanation, read_pairs, read_report
@@ -19,7 +21,17 @@ _PARTS = re.compile(
 _PROFILE = re.compile(rb"(?m)^(?:[ \t\r]*\n)*(?:\xef\xbb\xbf|[ \t]*(?:#|[0-9]+[ \t]*:))")
 
 
-def drawn(text: bytes) -> str:
+# a definition of a rule file without comments
+_DEFINITION = re.compile(r"([a-z][a-z0-9-]*)\s*=[^;]*;")
+
+
+def name_of(rule_file: str) -> Optional[str]:
+    """What the rule of a rule file is called."""
+    names = _DEFINITION.findall(re.sub(r"#.*", "", rule_file))
+    return str(names[-1]) if names else None
+
+
+def drawn(text: bytes, name: Optional[str] = None) -> str:
     """The page of these texts, one behind the other."""
     begins = _PROFILE.search(text)
     printed, votes = (text, b"") if begins is None else (text[: begins.start()], text[begins.start() :])
@@ -31,7 +43,7 @@ def drawn(text: bytes) -> str:
             explanation = read_explanation(part)
         elif part.startswith(b"alternatives "):
             pairs = read_pairs(part)
-    return page(report, explanation, pairs, Profile.read(votes) if votes else None)
+    return page(report, explanation, pairs, Profile.read(votes) if votes else None, name)
 
 
 def main() -> int:
@@ -41,7 +53,11 @@ def main() -> int:
         print("report-page: nothing on standard input, so no report was printed", file=sys.stderr)
         return 1
     try:
-        shown: Optional[str] = drawn(text)
+        name = name_of(Path(sys.argv[1]).read_text(encoding="utf-8")) if len(sys.argv) > 1 else None
+        shown: Optional[str] = drawn(text, name)
+    except OSError as stop:
+        print(f"report-page: the rule file can't be read: {stop}", file=sys.stderr)
+        return 1
     except ValueError as stop:
         print(f"report-page: what is on standard input is no report: {stop}", file=sys.stderr)
         return 1

@@ -14,11 +14,16 @@ function toldAlternative(number, names) {
   const shown = [element('span', { class: 'number' }, number)];
   if (name === undefined) return shown;
   const cut = name.length > NAME_SHOWN ? `${name.slice(0, NAME_SHOWN)}…` : name;
-  return [...shown, element('bdi', { class: 'name' }, cut)];
+  return [...shown, ' ', element('bdi', { class: 'name' }, cut)];
 }
 
+// These alternatives in a sentence, and of many how many more there are.
 function allTold(numbers, names) {
-  return numbers.flatMap((number, i) => [...(i ? [', '] : []), ...toldAlternative(number, names)]);
+  const shown = numbers.slice(0, LISTED);
+  const more = numbers.length - shown.length;
+  return [
+    shown.flatMap((number, i) => [...(i ? [', '] : []), ...toldAlternative(number, names)]),
+    more ? ` and ${more.toLocaleString('en')} more` : []];
 }
 
 // The parts of a term in the order of their places.
@@ -26,13 +31,16 @@ function partsOf(term) {
   return [term, ...term.parts.flatMap(partsOf)];
 }
 
+function isRepeated(term) {
+  return term.word === 'loop' || term.word === 'until';
+}
+
 // The visits as a tree: the last one, with those that it follows from, of its parts and of the rounds of a loop.
 function accountOf(visits, whole) {
   let next = 0;
-  const isLoop = (term) => term.word === 'loop' || term.word === 'until';
   const account = (place, term) => {
     const below = [];
-    if (isLoop(term)) {
+    if (isRepeated(term)) {
       while (visits[next].place !== place) below.push(account(place + 1, term.parts[0]));
     } else {
       let behind = place + 1;
@@ -50,9 +58,9 @@ function accountOf(visits, whole) {
 // ---- the steps
 
 function drawSteps(visits, term, names) {
-  const head = element('p', {}, 'Each step is a part of the rule that was asked about some alternatives. Scores are '
-    + 'counted on the ballots from which all others are struck. Who checks the scores on the ballots, and that each '
-    + 'step follows from the steps within it, has checked the result.');
+  const head = element('p', {}, 'Each step is a part of the rule. It decides on some alternatives, and all others are '
+    + 'struck from the ballots before it counts. You can check the result by hand: count the scores on the ballots, '
+    + 'and see that each step follows from the steps inside it.');
   if (visits.length > STEPS) {
     return [head, element('p', {}, `There are ${visits.length.toLocaleString('en')} steps, too many to be drawn. The `
       + 'text of explain has them all.')];
@@ -64,7 +72,7 @@ function drawSteps(visits, term, names) {
 function drawStep(account, names, unfolded) {
   const { visit, term, below } = account;
   if (!below.length) return element('li', { class: 'step' }, drawAsked(account, names), drawScored(account, names));
-  const alone = below.length === 1 && term.word !== 'loop' && term.word !== 'until';
+  const alone = below.length === 1 && !isRepeated(term);
   const inner = isTabled(account)
     ? drawRounds(visit, below.map((part) => part.visit), below[0].term, names)
     : element('ul', { role: 'list' }, below.map((part) => drawStep(part, names, alone || isTabled(part))));
@@ -76,13 +84,12 @@ function drawStep(account, names, unfolded) {
 function drawAsked({ visit, term }, names) {
   const head = headOf(term, term.parts.map(() => '…'));
   const made = [['elects', visit.split.elected], ['rejects', visit.split.rejected], ['defers', visit.split.deferred]];
-  const said = made.filter(([, numbers]) => numbers.length).flatMap(([verb, numbers], i) => [
-    i ? '; ' : '', `${verb} `,
-    numbers.length <= TABLED ? allTold(numbers, names) : `${numbers.length.toLocaleString('en')} alternatives`]);
+  const said = made.filter(([, numbers]) => numbers.length)
+    .flatMap(([verb, numbers], i) => [i ? '; ' : '', `${verb} `, allTold(numbers, names)]);
   const count = visit.of.length;
-  const about = count === 0 ? 'nobody' : count === 1 ? 'one' : `${count.toLocaleString('en')} of them`;
-  return [termCode(head), ' ', element('span', { class: 'gloss' }, `asked about ${about}: `),
-    said.length ? said : 'and has nobody to decide on'];
+  const about = count === 0 ? 'nobody' : count === 1 ? 'one alternative' : numbered(count, 'alternative');
+  return [termCode(head), ' ', element('span', { class: 'gloss' }, `decides on ${about}: `),
+    said.length ? said : 'so nothing happens'];
 }
 
 function drawScored({ visit, term }, names) {
@@ -94,7 +101,7 @@ function drawScored({ visit, term }, names) {
 function isTabled({ visit, term, below }) {
   const scored = below.every((part) => !part.below.length && part.visit.scores);
   const few = below.length <= ROUNDS && visit.of.length <= TABLED;
-  return (term.word === 'loop' || term.word === 'until') && below.length > 0 && scored && few;
+  return isRepeated(term) && below.length > 0 && scored && few;
 }
 
 function drawRounds(whole, visits, term, names) {
@@ -107,11 +114,32 @@ function drawScores(whole, visits, term, titles, names) {
   const least = scores.reduce((a, b) => (b < a ? b : a), 0n);
   const most = scores.reduce((a, b) => (b > a ? b : a), 0n);
   const heads = ['Alternative', ...titles].map((title) => element('th', { scope: 'col' }, title));
-  const rows = whole.of.map((one) => element('tr', {}, element('th', { scope: 'row' }, toldAlternative(one, names)),
+  const rows = byLeaving(whole.of, visits).map((one) => element('tr', {},
+    element('th', { scope: 'row' }, toldAlternative(one, names)),
     visits.map((visit) => drawCell(visit, one, least, most))));
+  const table = (shown, ...caption) => element('table', { class: 'scores' }, caption,
+    element('thead', {}, element('tr', {}, heads.map((it) => it.cloneNode(true)))), element('tbody', {}, shown));
+  const rest = rows.slice(LISTED);
   return element('div', { class: 'wide', tabindex: '0', role: 'group', 'aria-label': 'scores' },
-    element('table', { class: 'scores' }, element('caption', {}, 'Scores by which ', termCode(term.text), ' goes'),
-      element('thead', {}, element('tr', {}, heads)), element('tbody', {}, rows)));
+    table(rows.slice(0, LISTED), element('caption', {}, 'Scores by which ', termCode(term.text), ' goes')),
+    rest.length ? element('details', { class: 'more' }, andMore(rest.length), table(rest)) : []);
+}
+
+// First who stays, then who leaves last; of one round, by score.
+function byLeaving(numbers, visits) {
+  const placeOf = (one) => {
+    const last = visits.findLastIndex((visit) => visit.scores.has(one));
+    if (last < 0) return { left: -1, score: 0n };
+    const stays = !visits[last].split.rejected.includes(one);
+    return { left: stays ? visits.length : last, score: visits[last].scores.get(one) };
+  };
+  const places = new Map(numbers.map((one) => [one, placeOf(one)]));
+  return [...numbers].sort((one, other) => {
+    const [a, b] = [places.get(one), places.get(other)];
+    if (a.left !== b.left) return b.left - a.left;
+    if (a.score !== b.score) return a.score < b.score ? 1 : -1;
+    return one - other;
+  });
 }
 
 function drawCell(visit, one, least, most) {
@@ -119,9 +147,10 @@ function drawCell(visit, one, least, most) {
   const score = visit.scores.get(one);
   const { rejected, elected } = visit.split;
   const fate = rejected.includes(one) ? 'rejected' : elected.includes(one) ? 'elected' : '';
-  const shown = [element('span', { class: 'score' }, score.toLocaleString('en')), drawBar(score, least, most)];
-  if (fate) shown.push(element('span', { class: 'fate' }, fate === 'rejected' ? '✕ rejected' : '✓ elected'));
-  return element('td', fate ? { class: fate } : {}, shown);
+  const line = [element('span', { class: 'score' }, score.toLocaleString('en'))];
+  if (fate) line.push(' ', element('span', { class: 'fate' }, fate === 'rejected' ? '✕ rejected' : '✓ elected'));
+  return element('td', fate ? { class: fate } : {},
+    element('div', { class: 'line' }, line), drawBar(score, least, most));
 }
 
 // A bar from 0 to the score, among all from the least to the greatest.
@@ -129,15 +158,9 @@ function drawBar(score, least, most) {
   const width = most > least ? most - least : 1n;
   const at = (number) => Number((number - least) * 1000n / width);
   const [left, right] = [at(score < 0n ? score : 0n), at(score > 0n ? score : 0n)];
-  const svg = (name, attributes) => {
-    const made = document.createElementNS('http://www.w3.org/2000/svg', name);
-    for (const [key, value] of Object.entries(attributes)) made.setAttribute(key, value);
-    return made;
-  };
-  const bar = svg('svg', {
-    class: 'bar', viewBox: '0 0 1000 10', preserveAspectRatio: 'none', 'aria-hidden': 'true' });
-  bar.append(svg('rect', { x: left, y: 0, width: Math.max(0, right - left), height: 10 }));
-  return bar;
+  return drawing('svg', {
+    class: 'bar', viewBox: '0 0 1000 10', preserveAspectRatio: 'none', 'aria-hidden': 'true' },
+  drawing('rect', { x: left, y: 0, width: Math.max(0, right - left), height: 10 }));
 }
 
 // ---- pairs
@@ -145,15 +168,15 @@ function drawBar(score, least, most) {
 function drawPairs({ rows, names, winner }) {
   const numbers = rows.map((_, i) => i + 1);
   const told = winner === 'none'
-    ? element('p', {}, 'There is no Condorcet winner: nobody is preferred to each other one by more voters.')
+    ? element('p', {}, 'There is no Condorcet winner: nobody wins against each other alternative in a duel.')
     : element('p', {}, element('strong', {}, toldAlternative(Number(winner), names)),
-      ' is the Condorcet winner: preferred to each other one by more voters than the other way round.');
+      ' is the Condorcet winner: against each other alternative, more voters prefer it than not.');
   const heads = numbers.map((it) => element('th', { scope: 'col' }, toldAlternative(it, names)));
   const body = numbers.map((one) => element('tr', {}, element('th', { scope: 'row' }, toldAlternative(one, names)),
     numbers.map((other) => drawDuel(rows, one - 1, other - 1))));
   return [told,
-    element('p', {}, 'In each row: how many voters prefer the alternative of the row to that of the column, and how '
-      + 'many more they are than those of the other opinion. A win has a mark.'),
+    element('p', {}, 'Each row says how many voters prefer its alternative to that of the column, and by how many they '
+      + 'outnumber the others. A win has the mark ▲.'),
     element('div', { class: 'wide', tabindex: '0', role: 'group', 'aria-label': 'Duels' },
       element('table', { class: 'pairs' }, element('thead', {}, element('tr', {}, element('td', {}, ''), heads)),
         element('tbody', {}, body)))];

@@ -21,6 +21,14 @@ function element(name, attributes = {}, ...content) {
   return made;
 }
 
+// An element of a drawing, with attributes and elements within.
+function drawing(name, attributes = {}, ...content) {
+  const made = document.createElementNS('http://www.w3.org/2000/svg', name);
+  for (const [key, value] of Object.entries(attributes)) made.setAttribute(key, value);
+  made.append(...content.flat(Infinity).map(nodeOf));
+  return made;
+}
+
 function nodeOf(part) {
   return part instanceof Node ? part : document.createTextNode(seen(part));
 }
@@ -49,6 +57,14 @@ function prose(text) {
 
 function numbered(number, noun) {
   return `${number.toLocaleString('en')} ${noun}${number === 1 ? '' : 's'}`;
+}
+
+// so many members of a list are shown at once; the others are folded
+const LISTED = 10;
+
+// The summary of what is folded of a list.
+function andMore(number) {
+  return element('summary', {}, `and ${number.toLocaleString('en')} more`);
 }
 
 // Hands the reader a file.

@@ -8,8 +8,13 @@ const MOST_LINKED = 16000;
 class Input {
   // `changed` is called after each change.
   constructor(box, note, changed) {
-    Object.assign(this, { box, note, changed, file: null, original: null });
-    box.addEventListener('input', () => changed());
+    Object.assign(this, { box, note, changed, file: null, original: null, kept: null });
+    box.addEventListener('input', () => {
+      this.kept = null;
+      changed();
+    });
+    // lines break elsewhere in another width
+    window.addEventListener('resize', () => this.kept === null || this.reveal(this.kept));
   }
 
   // The bytes of what is handed in: those of the file, as long as nothing of it was changed.
@@ -27,6 +32,7 @@ class Input {
   set(text, bytes = null) {
     this.file = null;
     this.box.value = text;
+    this.kept = null;
     this.original = bytes && { text: this.box.value, bytes };
     this.box.hidden = false;
     fill(this.note);
@@ -49,12 +55,40 @@ class Input {
     this.changed();
   }
 
-  // Sets the mark of the box to a place of it.
+  // Sets the mark of the box to a place of it, and has it in sight.
   goTo({ from, to }) {
     if (this.file) return;
     this.box.focus();
     this.box.setSelectionRange(from, to);
+    this.reveal(from);
+    this.box.scrollIntoView({ block: 'nearest' });
   }
+
+  // Scrolls the box to a place of it, as the third line where there are lines before. The mark stays where it is.
+  reveal(from) {
+    this.kept = this.file ? null : from;
+    if (this.file) return;
+    const mirror = element('div', { class: 'mirror', 'aria-hidden': 'true' });
+    this.box.after(mirror);
+    mirror.style.width = `${this.box.clientWidth}px`;
+    const heightOf = (text) => {
+      mirror.textContent = text;
+      return mirror.getBoundingClientRect().height;
+    };
+    const line = heightOf('x\nx') - heightOf('x');
+    this.box.scrollTop = heightOf(`${this.box.value.slice(0, from)}x`) - heightOf('x') - 2 * line;
+    mirror.remove();
+  }
+
+  get isTyped() {
+    return document.activeElement === this.box;
+  }
+}
+
+// Where the last definition of a rule file begins.
+function lastDefinition(text) {
+  const found = [...text.matchAll(/^[ \t]*[a-z][a-z0-9-]*\s*=/gm)].pop();
+  return found ? found.index : 0;
 }
 
 // The text of bytes, without the mark of byte order being lost, or null where they aren't UTF-8.

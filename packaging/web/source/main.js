@@ -12,12 +12,14 @@ const MOST_EXPLAINED = 4000000;
 class Workbench {
   constructor(module) {
     this.engine = new Engine(module);
-    this.searching = new Searching(new Engine(module), (text) => this.ballots.set(text));
+    this.findings = new Findings(at('findings'), this.engine, new Engine(module), (text) => this.ballots.set(text));
     this.rule = new Input(at('rule'), at('rule-note'), () => this.changed());
     this.ballots = new Input(at('ballots'), at('ballots-note'), () => this.changed());
     this.table = new BallotTable(at('table'), (text) => this.ballots.set(text), say);
     this.certificates = new Certificates(this.engine, this.rule);
     Object.assign(this, { wanted: 0, running: false, since: 0, drawnRule: null, loading: false, times: null });
+    // a promise of the newest answer
+    this.settled = Promise.resolve();
     this.wire();
   }
 
@@ -29,9 +31,10 @@ class Workbench {
     at('stop').addEventListener('click', () => this.engine.stop('stopped by you'));
     at('link-copy').addEventListener('click', () => this.copyLink());
     at('words').addEventListener('toggle', () => at('meanings').firstChild || fill(at('meanings'), drawMeanings()));
-    offerExamples(at('cookbook'), KNOWN.cookbook, 'a rule of your own', (one) => this.rule.set(one.text));
+    offerExamples(at('cookbook'), KNOWN.cookbook, 'a rule of your own', (one) => this.setRule(one.text));
     offerExamples(at('profiles'), KNOWN.profiles, 'ballots of your own', (one) => this.ballots.set(one.text));
     document.addEventListener('click', showMeaning);
+    new Ways(at('skip'), at('jump'));
     window.addEventListener('hashchange', () => this.loadLink());
     window.addEventListener('beforeprint', () => this.mirror());
   }
@@ -39,10 +42,16 @@ class Workbench {
   // Puts the rule and the ballots in, and answers once.
   load({ rule, ballots }) {
     this.loading = true;
-    this.rule.set(rule);
+    this.setRule(rule);
     this.ballots.set(ballots);
     this.loading = false;
     this.changed();
+  }
+
+  // Puts a rule in, and has its last definition in sight.
+  setRule(text) {
+    this.rule.set(text);
+    this.rule.reveal(lastDefinition(text));
   }
 
   loadLink() {
@@ -73,7 +82,7 @@ class Workbench {
       if (performance.now() - this.since > LONG) this.engine.stop('something newer is wanted');
       return;
     }
-    this.run();
+    this.settled = this.run();
   }
 
   // Answers until what is answered is the newest.
@@ -102,7 +111,7 @@ class Workbench {
 
   tellEnded(stop) {
     at('state').textContent = `There is no answer: ${stop.message}. Any change has it counted again.`;
-    at('live').classList.add('stale');
+    tellStale(true);
   }
 
   get files() {
@@ -117,6 +126,7 @@ class Workbench {
     const said = decoder.decode(answer.out);
     this.tellFaults(answer, files);
     if (answer.status === 3) await this.judgeBallots(files);
+    this.tellWhetherAnswered(answer);
     if (answer.status !== 0) return;
     const start = performance.now();
     const report = readReport(said);
@@ -141,62 +151,87 @@ class Workbench {
   tellFaults(answer, files) {
     const fault = readFault(decoder.decode(answer.err));
     const of = answer.status === 3 ? 'rule' : answer.status === 4 ? 'ballots' : '';
-    for (const [name, bytes] of files) {
-      const input = name === 'rule' ? this.rule : this.ballots;
-      const wrong = name === of && fault;
-      fill(at(`${name}-fault`), wrong ? drawFault(fault, bytes, (place) => input.goTo(place)) : []);
-      input.box.setAttribute('aria-invalid', String(Boolean(wrong)));
-    }
-    at('live').classList.toggle('stale', answer.status !== 0);
-    at('outcome').classList.toggle('stale', answer.status !== 0);
+    for (const [name, bytes] of files) this.tellFault(name, name === of ? fault : null, bytes);
     if (answer.status === 4) this.table.show(null);
-    const told = {
-      0: '', 3: 'The rule has a fault. What is greyed is the last good answer.',
-      4: 'The ballots have a fault. What is greyed is the last good answer.', 7: 'Memory is wanting for this.' };
-    at('state').textContent = answer.status in told ? told[answer.status] : decoder.decode(answer.err);
+  }
+
+  // Shows a fault below the box that it is in and in the bar, and has its line in sight; or takes it away.
+  tellFault(name, fault, bytes) {
+    const input = name === 'rule' ? this.rule : this.ballots;
+    const goThere = (place) => input.goTo(place);
+    fill(at(`${name}-fault`), fault ? drawFault(fault, bytes, goThere) : []);
+    fill(at(`${name}-told`), fault ? drawFaultShort(fault, bytes, name, goThere) : []);
+    input.box.setAttribute('aria-invalid', String(Boolean(fault)));
+    if (fault && !input.isTyped) input.reveal(placeOf(fault, bytes).from);
+  }
+
+  // Says whether what stands below is the answer, the last good one, or none yet.
+  tellWhetherAnswered({ status, err }) {
+    const isAnswered = status === 0 || !document.body.classList.contains('unanswered');
+    document.body.classList.toggle('unanswered', !isAnswered);
+    tellStale(status !== 0);
+    const said = { 0: '', 3: '', 4: '', 7: 'There is too little memory for this. ' };
+    const why = status in said ? said[status] : `${decoder.decode(err)} `;
+    at('state').textContent = status === 0 ? '' : `${why}${isAnswered ? 'Below is the last good answer.' : 'No answer yet.'}`;
   }
 
   // Where the rule is refused the program doesn't look at the ballots: so they are judged by themselves.
   async judgeBallots(files) {
     const answer = await this.engine.call(['position', '1', 'max', 'ballots'], files.slice(1));
-    const fault = answer.status === 4 && readFault(decoder.decode(answer.err));
-    fill(at('ballots-fault'), fault ? drawFault(fault, files[1][1], (place) => this.ballots.goTo(place)) : []);
+    const fault = answer.status === 4 ? readFault(decoder.decode(answer.err)) : null;
+    this.tellFault('ballots', fault, files[1][1]);
     this.table.show(fault ? null : this.ballots.text);
   }
 
   drawReport(report) {
-    fill(at('result'), drawResult(report));
+    const { alternatives, voters } = report;
+    fill(at('result'), drawSets(report),
+      element('p', { class: 'kind' }, `${numbered(alternatives, 'alternative')}, ${numbered(voters, 'voter')}.`));
+    fill(at('facts'), drawFacts(report, null, null));
     fill(at('outcome'), saidResult(report));
+    this.findings.show(report, decoder.decode(this.rule.bytes));
     if (report.rule === this.drawnRule) return;
     this.drawnRule = report.rule;
-    const rule = decoder.decode(this.rule.bytes);
-    const open = [...at('findings').querySelectorAll('tr')].filter((row) => row.querySelector('details[open]'))
-      .map((row) => row.dataset.property);
     fill(at('term'), drawTerm(report.term));
-    fill(at('findings'), drawProperties(report, (property) => this.searching.drawn(rule, property)));
-    for (const row of at('findings').querySelectorAll('tr')) {
-      if (open.includes(row.dataset.property) && row.querySelector('details')) row.querySelector('details').open = true;
-    }
     this.certificates.offer(report.findings);
   }
 
   tellFigures(answer, drawn) {
     this.times = { call: answer.milliseconds, drawn, memory: answer.memory };
-    at('figures').textContent = `Report in ${answer.milliseconds.toFixed(2)} ms, with `
-      + `${(answer.memory / 1048576).toFixed(1)} MiB of memory`;
+    at('figures').textContent = `The last answer took ${answer.milliseconds.toFixed(2)} ms, and the module has `
+      + `${(answer.memory / 1048576).toFixed(1)} MiB of memory.`;
   }
 
   // What stands below the result: the steps, the duels, and the rule simplified.
   async explain(report, files, isOld) {
     const explained = await this.engine.call(['explain', 'rule', 'ballots'], files, MOST_EXPLAINED);
     if (isOld()) return;
-    drawOptional('rounds', explained, (text) => drawSteps(readVisits(text), report.term, report.names));
+    let account = null;
+    drawOptional('rounds', explained, (text) => {
+      const visits = readVisits(text);
+      account = accountOf(visits, report.term);
+      return drawSteps(visits, report.term, report.names);
+    });
     const few = report.alternatives <= TABLED;
     const pairs = few ? await this.engine.call(['pairs', 'ballots'], files.slice(1)) : { status: 2 };
+    const winner = few ? null : await this.condorcetWinner(files[1]);
     if (isOld()) return;
-    drawOptional('pairs', pairs, (text) => drawPairs(readPairs(text)));
+    let known = { winner };
+    drawOptional('pairs', pairs, (text) => {
+      known = readPairs(text);
+      const [told, note, table] = drawPairs(known);
+      return [told, note, element('div', { class: 'duels' }, table, drawGraph(known))];
+    });
+    fill(at('facts'), drawFacts(report, known, account));
     const simple = await this.engine.call(['simplify', 'rule'], files.slice(0, 1));
     if (simple.status === 0) fill(at('simple'), this.drawSimple(decoder.decode(simple.out), report.rule));
+  }
+
+  // The Condorcet winner where there are too many alternatives for a table of pairs, or none.
+  async condorcetWinner(ballots) {
+    const answer = await this.engine.call(['count', 'rule', 'ballots'], [['rule', 'c = max(condorcet);'], ballots]);
+    const deferred = answer.status === 0 ? readSplit(new Lines(decoder.decode(answer.out))).deferred : [];
+    return deferred.length === 1 ? String(deferred[0]) : 'none';
   }
 
   drawSimple(text, rule) {
@@ -219,6 +254,13 @@ function drawOptional(id, answer, draw) {
   if (answer.tooLong) fill(at(id), `It takes ${numbered(answer.tooLong, 'byte')} to tell, and isn't drawn.`);
   else if (answer.status === 0) fill(at(id), draw(decoder.decode(answer.out)));
   else fill(at(id), decoder.decode(answer.err) || decoder.decode(answer.out));
+}
+
+// Marks what stands below as the last good answer.
+function tellStale(isStale) {
+  at('live').classList.toggle('stale', isStale);
+  at('stale-note').hidden = !isStale;
+  at('outcome').hidden = isStale;
 }
 
 function say(sentence) {

@@ -1,7 +1,4 @@
-// What holds of the rule on every profile: derivations as trees, reasons, and a search where something isn't derived.
-
-// so many cases are tried at each asking
-const CASES = 20000;
+// Properties and their derivations in words and as trees, and what the words mean.
 
 // of a longer term this much is shown beside a judgement on it
 const TERM_SHOWN = 2000;
@@ -57,13 +54,12 @@ function drawDerived(node, drawn) {
   return drawNode(told, node.premises.map((premise) => drawDerived(premise, drawn)));
 }
 
-// A derivation, folded. It is drawn once it is opened, since it can have very many steps.
+// Why a property holds: its derivation as a tree.
 function drawDerivation(found) {
-  const summary = element('summary', {}, `Derivation by ${found.rule}, ${numbered(found.size, 'step')}`);
-  const place = element('div', { class: 'tree' });
-  const details = element('details', {}, summary, place);
-  details.addEventListener('toggle', () => place.firstChild || fill(place, drawTree(found)));
-  return details;
+  return [
+    element('p', {}, propertyLink(found.property), ` is derived in ${numbered(found.size, 'step')}, the last one by `,
+      ruleLink(found.rule)),
+    element('div', { class: 'tree' }, drawTree(found))];
 }
 
 function drawTree({ property, term, text, size }) {
@@ -79,45 +75,20 @@ function drawReason({ rule, number, premise }) {
     drawJudgement(premise));
 }
 
-function drawReasons({ reasons }) {
-  if (!reasons.length) return element('p', {}, 'No rule of derivation concludes it of a rule of this form.');
+// Why a property isn't derived.
+function drawReasons({ property, reasons }) {
   const fit = reasons.length;
-  const summary = fit === 1 ? 'One rule fits, and lacks a premise' : `${fit} rules fit, and each lacks a premise`;
-  return element('details', {}, element('summary', {}, summary), element('ul', {}, reasons.map(drawReason)));
+  const said = fit === 0 ? 'no rule of derivation concludes it of a rule of this form.'
+    : fit === 1 ? 'one rule of derivation fits, and lacks a premise.'
+      : `${fit} rules of derivation fit, and each lacks a premise.`;
+  return [element('p', {}, propertyLink(property), ` isn't derived: ${said}`),
+    fit ? element('ul', {}, reasons.map(drawReason)) : []];
 }
 
-// What the map of the cookbook says of a property that isn't derived, where the rule is one of the cookbook's.
-function drawKnown(rule, property) {
-  const known = KNOWN.cookbook.find((one) => one.term === rule);
-  const how = known && Object.keys(known.closed).find((it) => known.closed[it].split(' ').includes(property));
-  if (!how) return [];
-  const file = `examples/counterexamples/${known.name}.${property.replace(/[()]/g, '')}.soc`;
-  const by = how === 'case' ? ['a case shows it, ', element('code', {}, file)]
-    : ['by a law on ', element('code', {}, known.name), ', in docs/KNOWN.md'];
-  return element('div', { class: 'known' }, element('strong', {}, how === 'case' ? 'false' : how), ': ', by);
-}
-
-function drawFinding(found, look, rule) {
-  const sign = element('span', { 'aria-hidden': 'true', class: 'sign' }, found.holds ? '✓' : '–');
-  const why = found.holds ? [drawDerivation(found)]
-    : [drawKnown(rule, found.property), drawReasons(found), ...look(found.property)];
-  return element('tr', { role: 'row', class: found.holds ? 'holds' : 'underived', 'data-property': found.property },
-    element('th', { scope: 'row', role: 'rowheader' }, termLabel(found.property), ' ', propertyLink(found.property)),
-    element('td', { role: 'cell' }, sign, found.holds ? ' holds' : ' not derived'),
-    element('td', { role: 'cell' }, why));
-}
-
-function drawProperties({ rule, findings }, look) {
-  const derived = findings.filter((found) => found.holds).length;
-  const heading = (word) => element('th', { scope: 'col', role: 'columnheader' }, word);
-  const head = ['Property', 'Finding', 'Why'].map(heading);
-  return [
-    element('p', {}, `${derived} of ${findings.length} properties are derived. What holds has a derivation by rules `
-      + 'that are proved to be sound: it is true of this rule on every set of alternatives and every profile. Of what '
-      + 'is not derived these rules give no derivation, which doesn\'t mean that it is false.'),
-    element('table', { role: 'table', 'aria-labelledby': 'properties', class: 'findings' },
-      element('thead', { role: 'rowgroup' }, element('tr', { role: 'row' }, head)),
-      element('tbody', { role: 'rowgroup' }, findings.map((found) => drawFinding(found, look, rule))))];
+// The question that is asked of a property, as `defers(2)`. It is answered by always or by not always.
+function questionOf(property) {
+  const [word, number] = property.split(/[()]/);
+  return KNOWN.questions[word].replaceAll('{number}', number === '1' ? 'one' : number);
 }
 
 // What the words mean, drawn once.

@@ -7,7 +7,8 @@ function alternativeName(number, names) {
   const name = names[number];
   if (name === undefined) return [element('span', { class: 'number' }, number)];
   const cut = name.length > SHOWN ? `… (${name.length.toLocaleString('en')} characters)` : '';
-  return [element('span', { class: 'number' }, number), element('bdi', { class: 'name' }, name.slice(0, SHOWN)), cut];
+  return [
+    element('span', { class: 'number' }, number), ' ', element('bdi', { class: 'name' }, name.slice(0, SHOWN)), cut];
 }
 
 // A short text for an alternative, for lists and for labels.
@@ -16,22 +17,24 @@ function labelOf(number, names) {
   return name ? `${number} ${name.slice(0, 40)}` : String(number);
 }
 
-// more members of a set than this are told by their number
-const MEMBERS = 120;
-
 function drawSet(word, members, names) {
-  const shown = members.slice(0, MEMBERS).map((number) => element('li', {}, alternativeName(number, names)));
-  if (members.length > MEMBERS) shown.push(element('li', {}, `and ${members.length - MEMBERS} more`));
+  const all = members.map((number) => element('li', {}, alternativeName(number, names)));
+  const rest = all.slice(LISTED);
   return element('div', { class: word.toLowerCase() },
     element('h3', {}, `${word} `, element('span', { class: 'count' }, members.length.toLocaleString('en'))),
-    members.length ? element('ul', { role: 'list' }, shown) : element('p', {}, 'nobody'));
+    all.length ? element('ul', { role: 'list' }, all.slice(0, LISTED)) : element('p', {}, 'nobody'),
+    rest.length ? element('details', { class: 'more' }, andMore(rest.length), element('ul', { role: 'list' }, rest)) : []);
 }
 
-function drawResult({ split, names, alternatives, voters }) {
+// The three sets. One that is empty is told in a line, but for the first.
+function drawSets({ split, names }) {
+  const rest = [['Rejected', split.rejected], ['Deferred', split.deferred]];
+  const empty = rest.filter(([, members]) => !members.length).map(([word]) => `nobody is ${word.toLowerCase()}`);
+  const line = empty.join(' and ');
   return [
-    element('p', {}, `Counted on ${numbered(alternatives, 'alternative')} and ${numbered(voters, 'voter')}.`),
     element('div', { class: 'sets' }, drawSet('Elected', split.elected, names),
-      drawSet('Rejected', split.rejected, names), drawSet('Deferred', split.deferred, names))];
+      rest.filter(([, members]) => members.length).map(([word, members]) => drawSet(word, members, names))),
+    line ? element('p', { class: 'kind' }, `${line[0].toUpperCase()}${line.slice(1)}.`) : []];
 }
 
 // The result in a sentence, for readers of the screen.

@@ -1,9 +1,32 @@
-// The small table: ballots as rows whose alternatives are put in order by dragging them or by the arrow keys.
+// The small table: ballots as rows whose alternatives are put in order by dragging them or by keys. Each ballot is one
+// stop of the tabulator key: the arrow keys go on within it, and with the shift key they move the alternative.
 
 class BallotTable {
   // `changed` is called with the new text, and `say` with a sentence for readers of the screen.
   constructor(place, changed, say) {
     Object.assign(this, { place, changed, say, ballots: null, kept: '' });
+    place.addEventListener('focusin', (event) => this.stopAt(event.target));
+    place.addEventListener('keydown', (event) => this.goOn(event));
+  }
+
+  // Makes the part of a ballot that has the focus the one that the tabulator key comes back to.
+  stopAt(part) {
+    const row = part.closest('.ranked > li');
+    if (!row || part.dataset.key === undefined) return;
+    for (const it of row.querySelectorAll('[data-key]')) it.tabIndex = it === part ? 0 : -1;
+  }
+
+  // The arrow keys, within a ballot and from one to the next.
+  goOn(event) {
+    const row = event.target.closest('.ranked > li');
+    const step = { ArrowLeft: -1, ArrowRight: 1 }[event.key] || 0;
+    const over = { ArrowUp: 'previousElementSibling', ArrowDown: 'nextElementSibling' }[event.key];
+    if (!row || event.shiftKey || !(step || over) || isWithin(event.target, step)) return;
+    event.preventDefault();
+    const parts = [...row.querySelectorAll('[data-key]')];
+    const place = parts.indexOf(event.target);
+    const next = over ? row[over] && [...row[over].querySelectorAll('[data-key]')][place] : parts[place + step];
+    if (next) next.focus();
   }
 
   // Draws the table of a text, where it can be drawn. What was drawn of the same text stays as it is.
@@ -56,12 +79,13 @@ class BallotTable {
     const chips = order.map((alternative, place) => this.chip(alternative, place, line));
     return element('li', {},
       element('input', {
-        class: 'voters', value: count, inputmode: 'numeric', pattern: '[0-9]+', 'data-key': `count-${line}`,
+        class: 'voters', value: count, inputmode: 'numeric', pattern: '[0-9]+', 'data-key': `count-${line}`, tabindex: -1,
         'aria-label': `How many voters cast ballot ${line + 1}`,
         onchange: (event) => this.recount(line, event.target) }),
-      element('ol', { class: 'chips', 'aria-label': `Ballot ${line + 1}, the best first` }, chips),
+      element('ol', { class: 'chips', role: 'listbox', 'aria-label': `Ballot ${line + 1}, the best first` }, chips),
       element('button', {
         type: 'button', class: 'small', 'aria-label': `Take ballot ${line + 1} away`, title: 'Take this ballot away',
+        'data-key': `away-${line}`, tabindex: -1,
         onclick: () => this.take({ ...this.ballots, lines: this.ballots.lines.filter((_, i) => i !== line) }) }, '×'));
   }
 
@@ -82,14 +106,17 @@ class BallotTable {
   chip(alternative, place, line) {
     const { names, alternatives } = this.ballots;
     const label = `${labelOf(alternative, names)}, place ${place + 1} of ${alternatives} on ballot ${line + 1}`;
-    return element('li', {}, element('button', {
-      type: 'button', class: 'chip', 'data-key': `chip-${line}-${alternative}`, 'data-alternative': alternative,
-      'aria-label': `${label}. Arrow keys move it.`, onkeydown: (event) => this.pressed(event, alternative, line),
-      onpointerdown: (event) => this.dragged(event, line) }, alternativeName(alternative, names)));
+    return element('li', {
+      class: 'chip', role: 'option', 'aria-selected': 'false', tabindex: place ? -1 : 0,
+      'data-key': `chip-${line}-${alternative}`, 'data-alternative': alternative,
+      'aria-label': `${label}. With Shift, the arrow keys move it.`,
+      onkeydown: (event) => this.pressed(event, alternative, line),
+      onpointerdown: (event) => this.dragged(event, line) }, alternativeName(alternative, names));
   }
 
-  // The arrow keys: one place to the front or to the back; Home and End: to the ends.
+  // The arrow keys with Shift: one place to the front or to the back; Home and End with it: to the ends.
   pressed(event, alternative, line) {
+    if (!event.shiftKey) return;
     const order = this.ballots.lines[line].order;
     const from = order.indexOf(alternative);
     const last = order.length - 1;
@@ -108,7 +135,7 @@ class BallotTable {
   // The chip follows the pointer among those of its ballot, and the order is taken over when it is let go.
   dragged(event, line) {
     if (event.button !== 0) return;
-    const item = event.currentTarget.parentElement;
+    const item = event.currentTarget;
     const list = item.parentElement;
     const move = (now) => {
       const under = document.elementFromPoint(now.clientX, now.clientY);
@@ -132,6 +159,7 @@ class BallotTable {
     document.addEventListener('pointercancel', end);
   }
 
+  // The buttons below the ballots.
   buttons() {
     const { alternatives, lines } = this.ballots;
     const ascending = Array.from({ length: alternatives }, (_, i) => i + 1);
@@ -143,4 +171,10 @@ class BallotTable {
       button('Add an alternative', alternatives < MOST_ALTERNATIVES, () => withOneMore(this.ballots)),
       button('Take the last alternative away', alternatives > 1, () => withoutLast(this.ballots)));
   }
+}
+
+// Whether a step of the mark stays within a box for typing.
+function isWithin(box, step) {
+  if (!(box instanceof HTMLInputElement) || !step) return false;
+  return step < 0 ? box.selectionStart > 0 : box.selectionEnd < box.value.length;
 }

@@ -16,7 +16,7 @@ from opened import BROWSER, TOP, Workbench
 
 import virage
 from tests import hostile
-from virage import account_pages
+from virage import account_pages, pages
 
 PAGE = ''
 FIVE_WAYS = (TOP / 'examples/profiles/five-ways.soc').read_text()
@@ -28,7 +28,8 @@ class Uses(unittest.TestCase):
     def setUpClass(cls):
         cls.page = Workbench(PAGE)
         cls.room = tempfile.TemporaryDirectory()
-        cls.page.send('Browser.setDownloadBehavior', behavior='allow', downloadPath=cls.room.name)
+        cls.page.send(
+            'Browser.setDownloadBehavior', behavior='allow', downloadPath=cls.room.name, eventsEnabled=True)
 
     @classmethod
     def tearDownClass(cls):
@@ -44,10 +45,7 @@ class Uses(unittest.TestCase):
 
     def saved(self, name):
         path = Path(self.room.name, name)
-        end = time.monotonic() + 10
-        while not path.exists() or not path.stat().st_size:
-            self.assertLess(time.monotonic(), end, f'{name} is never saved')
-            time.sleep(0.05)
+        self.page.event('Browser.downloadProgress', state='completed')
         content = path.read_bytes()
         path.unlink()
         return content
@@ -74,6 +72,8 @@ class Uses(unittest.TestCase):
         self.page.settle()
         shown = self.page.text('rule-fault')
         self.assertIn('Line 2, column 13', shown)
+        self.assertIn('Is borda meant?', shown)
+        self.assertIn('Line 2 of the rule: This word is not of the language', self.page.text('bar'))
         self.assertIn('This word is not of the language', shown)
         lines = shown.split('\n')
         at = next(i for i, line in enumerate(lines) if line.startswith('r = '))
@@ -105,23 +105,41 @@ class Uses(unittest.TestCase):
         self.assertIn('Baldwin, 1926', self.page.text('about'))
         self.assertIn('a pool', ' '.join(self.elected()))
 
-    def test_what_is_known_of_a_rule_of_the_cookbook_stands_beside_what_is_not_derived(self):
-        named = 0
+    def test_each_property_of_a_rule_of_the_cookbook_is_always_or_not_always_true(self):
+        counts = {'derivation': 0, 'law': 0, 'case': 0}
         for path in sorted((TOP / 'examples/rules').glob('*.vir')):
             self.page.choose('cookbook', self.index_of(path.stem))
             self.page.settle()
-            underived = self.page.value('document.querySelectorAll("#findings tr.underived").length')
-            said = self.page.all_said('#findings tr.underived .known')
-            self.assertEqual(len(said), underived, path.name)
-            for line in said:
-                self.assertRegex(line, '^(false: a case shows it, |true: by a law|false: by a law)')
-                if ' case ' in line:
-                    self.assertTrue((TOP / line.split(', ')[1]).is_file(), line)
-                    named += 1
-        self.assertEqual(named, 184)
+            for how in self.page.value('workbench.findings.all.map((it) => it.by)'):
+                counts[how] += 1
+            self.assertEqual(self.count('#findings .finding'), 18, path.name)
+            self.assertEqual(self.count('#findings .open'), 0, path.name)
+        self.assertEqual(counts, {'derivation': 83, 'law': 39, 'case': 184})
         self.page.type_into('#rule', 'r = max(borda);')
         self.page.settle()
-        self.assertEqual(self.page.all_said('#findings .known'), [])
+        self.assertGreater(self.count('#findings .open'), 0)
+        self.assertEqual(self.count('#findings .never'), 0)
+        asked = self.page.said('.finding[data-property=mono] .question')
+        self.assertEqual(asked, 'Does a winner that gets more support still win?')
+
+    def count(self, selector):
+        return self.page.value(f'document.querySelectorAll({json.dumps(selector)}).length')
+
+    def unfold(self, property_):
+        self.page.click(f'.finding[data-property="{property_}"] summary')
+        self.page.until(f'document.querySelector(".finding[data-property=\'{property_}\'] details > div").firstChild')
+
+    def test_a_false_property_has_its_case(self):
+        self.unfold('mono')
+        case = '.finding[data-property=mono] .case'
+        self.page.until(f'!document.querySelector("{case}").innerText.includes("…")')
+        said = self.page.said(case)
+        self.assertIn('On these ballots the rule elects 1, 2, 3.', said)
+        self.assertIn('When 1 gets more support from the marked voters, it elects 2; rejects 1, 3.', said)
+        self.assertEqual(self.page.all_said(f'{case} .raised'), ['1 ▲', '1 ▲'])
+        self.page.click(f'{case} > div:last-child button')
+        self.page.settle()
+        self.assertIn('Elected: 2.', self.page.text('outcome'))
 
     def test_ballots_are_put_in_order_by_dragging(self):
         self.page.choose('profiles', '1')
@@ -135,16 +153,39 @@ class Uses(unittest.TestCase):
 
     def test_ballots_are_put_in_order_by_keys(self):
         self.page.value('document.querySelector("[data-key=\'chip-0-1\']").focus()')
-        self.page.press('ArrowRight', 39)
-        self.page.press('ArrowRight', 39)
+        self.page.shifted('ArrowRight', 39)
+        self.page.shifted('ArrowRight', 39)
         self.page.settle()
         self.assertIn('18: 4,5,1,3,2', self.typed('ballots'))
         self.assertEqual(self.page.value('document.activeElement.dataset.key'), 'chip-0-1', 'the mark stays on it')
         self.assertEqual(self.page.value('document.getElementById("said").textContent'),
                          '1 a library is now at place 3 of ballot 1.')
-        self.page.press('End', 35)
+        self.page.shifted('End', 35)
         self.page.settle()
         self.assertIn('18: 4,5,3,2,1', self.typed('ballots'))
+
+    def test_each_ballot_is_one_stop_of_the_tabulator_key(self):
+        key = 'document.activeElement.dataset.key'
+        self.page.value('document.querySelector("[data-key=\'chip-0-1\']").focus()')
+        self.page.press('Tab', 9)
+        self.assertEqual(self.page.value(key), 'chip-1-2')
+        self.page.press('ArrowRight', 39)
+        self.assertEqual(self.page.value(key), 'chip-1-5')
+        self.page.press('ArrowDown', 40)
+        self.assertEqual(self.page.value(key), 'chip-2-2')
+        self.page.press('ArrowLeft', 37)
+        self.page.press('ArrowLeft', 37)
+        self.assertEqual(self.page.value(key), 'count-2')
+        self.page.press('Tab', 9)
+        self.assertEqual(self.page.value(key), 'chip-3-4')
+        self.assertIn('10: 3,2,5,4,1', self.typed('ballots'), 'nothing was moved')
+
+    def test_the_first_stop_leads_to_the_answer(self):
+        self.page.value('document.activeElement.blur()')
+        self.page.press('Tab', 9)
+        self.assertEqual(self.page.value('document.activeElement.innerText'), 'To the answer')
+        self.page.press('Enter', 13)
+        self.assertEqual(self.page.value('document.activeElement.id'), 'result-title')
 
     def test_ballots_and_alternatives_are_added_and_named(self):
         self.page.choose('profiles', '1')
@@ -193,34 +234,44 @@ class Uses(unittest.TestCase):
         self.assertIn('Nobody is elected', self.page.text('outcome'))
 
     def test_a_derivation_is_unfolded_and_its_words_are_explained(self):
-        self.page.click('tr[data-property="el"] summary')
-        self.page.until('document.querySelector("tr[data-property=el] .node")')
-        nodes = self.page.all_said('tr[data-property=el] .node')
+        self.unfold('el')
+        nodes = self.page.all_said('.finding[data-property=el] .node')
         self.assertEqual(nodes[0], 'el of seq(loop(1,min(plurality)),elect) by el-seq-second')
-        self.page.click('tr[data-property="el"] .by a')
+        self.page.click('.finding[data-property="el"] .by a')
         self.assertEqual(self.page.value('document.activeElement.id'), 'rule-el-seq-second')
         self.assertIn('Why: ', self.page.value('document.activeElement.innerText'))
 
     def test_a_counterexample_is_looked_for_and_loaded(self):
-        self.page.click('tr[data-property="mono"] .look')
-        self.page.until('document.querySelector("tr[data-property=mono] .case")')
-        cases = self.page.all_said('tr[data-property=mono] .case')
-        told = self.page.said('tr[data-property=mono] .search')
-        raised = told.split('with alternative ')[1].split(' ')[0]
-        files = {'r': RUNOFF, 'a': cases[0], 'b': cases[1]}
-        self.assertEqual(self.page.call(['refute', 'r', 'mono', 'a', 'b', raised], files)[:2], (0, b'violated\n'))
-        self.page.value('document.querySelector("tr[data-property=mono] .search button").click()')
+        rule = 'r = seq(until(1, min(plurality)), elect);'
+        self.page.type_into('#rule', rule)
         self.page.settle()
-        self.assertEqual(self.typed('ballots').strip(), cases[0].strip())
-        self.assertTrue(self.page.value('Boolean(document.querySelector("tr[data-property=mono] .case"))'), 'it stays')
-        self.page.click('tr[data-property="cc"] .look')
-        self.page.until('document.querySelector("tr[data-property=cc] .case")')
+        self.unfold('mono')
+        self.page.click('.finding[data-property="mono"] .look')
+        self.page.until('document.querySelector(".finding[data-property=mono] .case")')
+        found = self.page.value('workbench.findings.cases.get("mono")')
+        files = {'r': rule, 'a': found['first'], 'b': found['second']}
+        words = ['refute', 'r', 'mono', 'a', 'b', str(found['alternative'])]
+        self.assertEqual(self.page.call(words, files)[:2], (0, b'violated\n'))
+        self.page.click('.finding[data-property=mono] .case button')
+        self.page.settle()
+        self.assertEqual(self.typed('ballots'), found['first'])
+        self.assertEqual(self.count('.finding[data-property=mono] .case'), 1, 'it stays')
+
+    def test_cases_are_looked_for_against_all_that_is_open(self):
+        self.page.type_into('#rule', 'r = seq(max(borda), max(plurality));')
+        self.page.settle()
+        before = self.count('#findings .open')
+        self.page.click('.look-all')
+        self.page.until('document.getElementById("said").textContent.startsWith("The search is done")')
+        self.assertLess(self.count('#findings .open'), before)
+        self.assertEqual(self.count('#findings .finding'), 18)
 
     def test_a_search_is_stopped(self):
-        self.page.type_into('#rule', 'r = seq(plurality, elect);')
+        self.page.type_into('#rule', 'r = seq(plurality, seq(defer, elect));')
         self.page.settle()
-        place = 'tr[data-property=mono] .search'
-        self.page.click('tr[data-property="mono"] .look')
+        self.unfold('mono')
+        place = '.finding[data-property=mono] .search'
+        self.page.click('.finding[data-property="mono"] .look')
         self.page.until(f'document.querySelector("{place}").innerText.includes("None of")')
         self.assertIn('proves nothing', self.page.said(place))
         self.page.value(f'(() => {{ const press = () => document.querySelector("{place} button").click();'
@@ -345,9 +396,11 @@ class Uses(unittest.TestCase):
             rule = path.read_text()
             status, out, _ = self.page.call(['report', 'r', 'p'], {'r': rule, 'p': FIVE_WAYS})
             self.assertEqual(status, 0)
-            self.page.value(f'workbench.rule.set(KNOWN.cookbook.find((it) => it.name === "{path.stem}").text)')
-            self.page.settle()
-            self.assertEqual(self.drawn(), self.drawn_of(virage.page(virage.read_report(out))), path.stem)
+            report = virage.read_report(out)
+            drawn = self.page.value(
+                f'readReport({json.dumps(out.decode())}).findings.map((it) => element("div", {{}}, '
+                'it.holds ? drawDerivation(it) : drawReasons(it)).textContent)')
+            self.assertEqual(drawn, [text_of(pages.why(it)) for it in report.findings.values()], path.stem)
 
     def test_accounts_are_drawn_as_on_the_page_of_a_report(self):
         for path in sorted((TOP / 'examples/expected').glob('explain.*')):
@@ -363,29 +416,11 @@ class Uses(unittest.TestCase):
                 f'element("div", {{}}, drawPairs(readPairs({json.dumps(path.read_text())}))).textContent')
             self.assertEqual(drawn, text_of(account_pages.duels(told)), path.name)
 
-    def drawn(self):
-        """The texts of what the table of findings says, but for the buttons."""
-        self.page.value('for (const it of document.querySelectorAll("#findings details")) it.open = true')
-        self.page.until('[...document.querySelectorAll("#findings .tree")].every((it) => it.firstChild)')
-        return self.page.value(f'({TEXTS})(document)')
-
-    def drawn_of(self, page):
-        return self.page.value(f'({TEXTS})(new DOMParser().parseFromString({quoted(page)}, "text/html"))')
-
 
 def text_of(parts):
     """What parts of a page say, without the markup."""
     return html.unescape(re.sub('<[^>]*>', '', ''.join(parts)))
 
-
-def quoted(page):
-    """A page as a text of the page's script language, without its style, which the policy would refuse here."""
-    return json.dumps(re.sub('<style>.*?</style>', '', page, flags=re.S))
-
-
-TEXTS = '''(page) => [...page.querySelectorAll('table tbody tr.holds, table tbody tr.underived')].map((row) => (
-  [...row.querySelectorAll('th, td:nth-child(2), summary, .node, li, td > p:not(.row)')].map((it) => (
-    it.matches('.node') || !it.querySelector('.node') ? it.textContent.trim() : ''))))'''
 
 if __name__ == '__main__':
     PAGE = sys.argv.pop(1)

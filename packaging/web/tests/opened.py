@@ -3,7 +3,6 @@ import base64
 import json
 import os
 import sys
-import time
 from pathlib import Path
 
 TOP = Path(__file__).resolve().parents[3]
@@ -11,15 +10,16 @@ sys.path.insert(0, str(TOP / 'python'))
 
 from tests.chromium import BROWSER, Chromium, NoAnswer  # noqa: E402,F401
 
-# how long something is waited for, in seconds
-PATIENCE = 30
-
-
 class Workbench(Chromium):
     """A browser that has the workbench open."""
 
     def __init__(self, path):
-        super().__init__()
+        try:
+            super().__init__()
+        except NoAnswer as stop:
+            print(f'the browser did not start ({stop}), and is started once more', flush=True)
+            self.__exit__(NoAnswer, None, None)
+            super().__init__()
         self.path = os.path.abspath(path)
         self.resize(1400, 1000)
         self.begin()
@@ -39,16 +39,34 @@ class Workbench(Chromium):
         return answer['result'].get('value')
 
     def until(self, expression):
-        """Waits until an expression of the page is true."""
-        end = time.monotonic() + PATIENCE
-        while not self.value(f'Boolean({expression})'):
-            if time.monotonic() > end:
-                raise AssertionError(f'this never comes to be: {expression}')
-            time.sleep(0.02)
+        """Waits until an expression of the page is true. It is looked at after each change of the page."""
+        try:
+            self.awaited(f'({UNTIL})(() => Boolean({expression}))')
+        except NoAnswer as stop:
+            raise NoAnswer(f'{stop}, and this never comes to be: {expression}') from stop
 
     def settle(self):
         """Waits until what was handed in last is answered."""
-        self.until('!globalThis.workbench || !workbench.running')
+        self.awaited('globalThis.workbench && workbench.settled')
+
+    def drawn(self):
+        """Waits until the page is laid out and drawn as it stands."""
+        self.awaited('new Promise((done) => requestAnimationFrame(() => requestAnimationFrame(() => done())))')
+
+    def event(self, method, **wanted):
+        """Waits for an event with these parameters, among those that came since the last one was waited for."""
+        while True:
+            for place, event in enumerate(self.events):
+                told = event.get('params', {})
+                if event.get('method') == method and all(told.get(key) == it for key, it in wanted.items()):
+                    del self.events[place]
+                    return told
+            self.events.append(self._next())
+
+    def shifted(self, key, code):
+        """Presses a key while the shift key is held."""
+        for kind in ('keyDown', 'keyUp'):
+            self.send('Input.dispatchKeyEvent', type=kind, key=key, code=key, windowsVirtualKeyCode=code, modifiers=8)
 
     def said(self, selector):
         """What stands in an element, as it is seen."""
@@ -131,7 +149,7 @@ class Workbench(Chromium):
         """A picture of the page at a width, whole where no height is named."""
         self.resize(width, height or 1000)
         self.dark(dark)
-        time.sleep(0.2)
+        self.drawn()
         whole = {} if height else {'captureBeyondViewport': True}
         if not height:
             size = self.send('Page.getLayoutMetrics')['cssContentSize']
@@ -150,6 +168,18 @@ class Workbench(Chromium):
                 if event.get('method') == 'Network.requestWillBeSent')
         return [url for url in sent if not url.startswith(('file:', 'blob:', 'data:'))]
 
+
+# a promise that a condition of the page is met
+UNTIL = '''(condition) => new Promise((done) => {
+  const observer = new MutationObserver(() => look());
+  const look = () => {
+    if (!condition()) return;
+    observer.disconnect();
+    done();
+  };
+  observer.observe(document, { subtree: true, childList: true, attributes: true, characterData: true });
+  look();
+})'''
 
 # answers cases in the page by its own worker
 ANSWER_ALL = '''async (cases) => {

@@ -1,6 +1,5 @@
 """Makes docs/workbench.png anew: `packaging/web/tests/picture.py WORKBENCH.html`, where Chromium is."""
 import sys
-import time
 
 from opened import TOP, Workbench
 
@@ -9,8 +8,6 @@ WIDTH, HEIGHT = 1400, 1080
 
 def main():
     with Workbench(sys.argv[1]) as page:
-        page.value('document.querySelector("tr[data-property=el] details").open = true')
-        time.sleep(0.2)
         page.value('scrollTo(0, 0)')
         page.picture(TOP / 'docs/workbench.png', WIDTH, HEIGHT)
 
