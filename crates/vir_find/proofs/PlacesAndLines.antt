@@ -19,6 +19,7 @@ use Rattle.vir_find.specs.Outcomes.{IsFirst, IsOutcome}
 use Rattle.vir_find.specs.Raises.{Raise, behind, raises, Lift, behind_line, line_lift, single_lifts}
 use Rattle.vir_find.specs.Spreads.{with_line}
 use Rattle.vir_find.specs.Trials.{election, lift_case, cases_of}
+use Rattle.vir_find.proofs.CaseKinds.{cases_of-lifts}
 use Rattle.vir_find.proofs.Outcomes.{none_further, first_at, first_later}
 
 -- ---- numbers in a row
@@ -93,7 +94,7 @@ map-flat_map : {A B C : Type 0} (f : B → C) (g : A → List B) (xs : List A) �
 map-flat_map f g [] = refl
 map-flat_map f g (x ∷ xs) = map-append f (g x) (flat_map g xs) ∙ ap (λ ys. map f (g x) ++ ys) (map-flat_map f g xs)
 
-flat_map-one : {A B : Type 0} (f : A → B) (xs : List A) → map f xs ≡ flat_map (λ x. f x ∷ []) xs
+pub flat_map-one : {A B : Type 0} (f : A → B) (xs : List A) → map f xs ≡ flat_map (λ x. f x ∷ []) xs
 flat_map-one f [] = refl
 flat_map-one f (x ∷ xs) = ap (λ ys. f x ∷ ys) (flat_map-one f xs)
 
@@ -116,9 +117,7 @@ lines_are m lines =
 -- ---- what a search of these finds
 pub lift_cases : (prop : Prop) (votes : Votes) → is_on_lifts prop ≡ true → cases_of prop votes.alternatives votes.lines
     ≡ pair (election_of votes) (election_of votes) 1 ∷ cases_of_lines votes.alternatives votes.lines
-lift_cases prop votes kind =
-    ap (λ b. cond b (pair (election_of votes) (election_of votes) 1
-    ∷ map (lift_case votes.alternatives) (single_lifts votes.lines)) (one (election_of votes) ∷ [])) kind
+lift_cases prop votes kind = cases_of-lifts prop votes.alternatives votes.lines kind
     ∙ ap (λ cs. pair (election_of votes) (election_of votes) 1 ∷ cs) (lines_are votes.alternatives votes.lines)
 
 module _ (Wanted : Case → Type 0) (m : ℕ) (lines : List Entry) where

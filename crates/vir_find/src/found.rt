@@ -7,7 +7,8 @@ ghost use Rattle.vir_find.specs.Found.{found_case};
 
 use vir_profile::Profile;
 
-/// A case that violates a property: a profile, or two, of which the second lifts an alternative against the first.
+/// A case that violates a property: a profile, or two, of which the second lifts an alternative against the first, or a
+/// profile and two neighbours that change names.
 #[derive(Debug, Drop)]
 pub enum FoundCase {
     /// For a property that speaks of one profile.
@@ -19,6 +20,11 @@ pub enum FoundCase {
         first: Profile,
         second: Profile,
         lifted: u16,
+    },
+    /// For neutrality: this alternative and the next one change names.
+    Exchanged {
+        profile: Profile,
+        lower: u16,
     },
 }
 
@@ -34,7 +40,7 @@ fn are_elections(found: &FoundCase)
     ensures { AreElections (found_case found.now) }
 {
     match found {
-        FoundCase::One { profile } => is_election(profile),
+        FoundCase::One { profile } | FoundCase::Exchanged { profile, .. } => is_election(profile),
         FoundCase::Pair { first, second, .. } => {
             is_election(first);
             is_election(second);
