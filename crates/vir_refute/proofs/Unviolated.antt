@@ -15,7 +15,7 @@ use Rattle.vir_mean.specs.Properties.{Holds, ElectsNobody}
 use Rattle.vir_mean.proofs.MeaningLaws.{Splits}
 use Rattle.vir_mean.proofs.RestrictedLifts.{unchanged_profile_is_a_lift}
 use Rattle.vir_sound.proofs.MeaningLemmas.{empty_of_none, none_at, member_of}
-use Rattle.vir_refute.specs.Cases.{Election, one, pair}
+use Rattle.vir_refute.specs.Cases.{Election, one, pair, renamed}
 use Rattle.vir_refute.specs.Violations.{OfWinner, PremiseOnOne, ConclusionOnOne, PremiseOnLift, ConclusionOnLift}
 use Rattle.vir_refute.specs.Violations.{IsNeverViolated}
 use Rattle.vir_refute.proofs.Stability.{Surely, surely, true_surely, number_surely, not_surely, set_surely}
@@ -58,39 +58,39 @@ elects_nobody m splits never a p on = in_cases (equal_or_not a set.empty)
         (λ elected. on_lift Dimono m never a p p has.one on on has.member (unchanged_profile_is_a_lift p has.one)
         (inr elected) (λ conclusion. elected conclusion.0))
 
-pub holds_if_never_violated : (prop : Prop) (m : Meaning) → prop ≢ Neut → Splits m → IsNeverViolated prop m
-    → Holds prop m
-holds_if_never_violated Ne m other splits never = λ a p on. set_surely _ _ (on_one Ne m never a p on tt)
-holds_if_never_violated Ea m other splits never = λ a p on. set_surely _ _ (on_one Ea m never a p on tt)
-holds_if_never_violated El m other splits never = λ a p on some. not_surely (on_one El m never a p on some)
-holds_if_never_violated (Defers k) m other splits never = λ a p on size.
+pub holds_if_never_violated : (prop : Prop) (m : Meaning) → Splits m → IsNeverViolated prop m → Holds prop m
+holds_if_never_violated Ne m splits never = λ a p on. set_surely _ _ (on_one Ne m never a p on tt)
+holds_if_never_violated Ea m splits never = λ a p on. set_surely _ _ (on_one Ea m never a p on tt)
+holds_if_never_violated El m splits never = λ a p on some. not_surely (on_one El m never a p on some)
+holds_if_never_violated (Defers k) m splits never = λ a p on size.
     number_surely _ _ (on_one (Defers k) m never a p on size)
-holds_if_never_violated (Rejects k) m other splits never = λ a p on size.
+holds_if_never_violated (Rejects k) m splits never = λ a p on size.
     number_surely _ _ (on_one (Rejects k) m never a p on size)
-holds_if_never_violated (Elim k) m other splits never = λ a p on size.
+holds_if_never_violated (Elim k) m splits never = λ a p on size.
     number_surely _ _ (on_one (Elim k) m never a p on size)
-holds_if_never_violated Nb m other splits never = λ a p on some. not_surely (on_one Nb m never a p on some)
-holds_if_never_violated Decr m other splits never = λ a p on size. not_surely (on_one Decr m never a p on size)
-holds_if_never_violated Dli m other splits never = λ a p q x on_p on_q member lifts deferred.
+holds_if_never_violated Nb m splits never = λ a p on some. not_surely (on_one Nb m never a p on some)
+holds_if_never_violated Decr m splits never = λ a p on size. not_surely (on_one Decr m never a p on size)
+holds_if_never_violated Dli m splits never = λ a p q x on_p on_q member lifts deferred.
     split_surely _ _ (on_lift Dli m never a p q x on_p on_q member lifts deferred)
-holds_if_never_violated Imono m other splits never = λ a p q x on_p on_q member lifts elected.
+holds_if_never_violated Imono m splits never = λ a p q x on_p on_q member lifts elected.
     stays_surely x _ _ (on_lift Imono m never a p q x on_p on_q member lifts elected)
-holds_if_never_violated Dimono m other splits never = (
+holds_if_never_violated Dimono m splits never = (
   elects_nobody m splits never,
   λ a p q x on_p on_q member lifts deferred.
       stays_surely x _ _ (surely (λ (both : ConclusionOnLift Dimono x (m a p) (m a q)). both.1 deferred)
       (on_lift Dimono m never a p q x on_p on_q member lifts (inl deferred))),
 )
-holds_if_never_violated Dmono m other splits never = λ a p q x on_p on_q member lifts deferred.
+holds_if_never_violated Dmono m splits never = λ a p q x on_p on_q member lifts deferred.
     true_surely _ (on_lift Dmono m never a p q x on_p on_q member lifts deferred)
-holds_if_never_violated Mono m other splits never = λ a p q x on_p on_q member lifts elected.
+holds_if_never_violated Mono m splits never = λ a p q x on_p on_q member lifts elected.
     true_surely _ (on_lift Mono m never a p q x on_p on_q member lifts elected)
-holds_if_never_violated Cc m other splits never = λ a p w on winner.
+holds_if_never_violated Cc m splits never = λ a p w on winner.
     split_surely _ _ (of_winner a p _ w winner (on_one Cc m never a p on (w, winner)))
-holds_if_never_violated Dcc m other splits never = λ a p w on winner.
+holds_if_never_violated Dcc m splits never = λ a p w on winner.
     split_surely _ _ (of_winner a p _ w winner (on_one Dcc m never a p on (w, winner)))
-holds_if_never_violated Cprog m other splits never = λ a p w on winner.
+holds_if_never_violated Cprog m splits never = λ a p w on winner.
     progress_surely w a _ (of_winner a p _ w winner (on_one Cprog m never a p on (w, winner)))
-holds_if_never_violated Ccomp m other splits never = λ a p w on winner.
+holds_if_never_violated Ccomp m splits never = λ a p w on winner.
     compatible_surely w a _ (of_winner a p _ w winner (on_one Ccomp m never a p on (w, winner)))
-holds_if_never_violated Neut m other splits never = absurd (other refl)
+holds_if_never_violated Neut m splits never = λ a p f on renaming. split_surely _ _ (λ fails.
+    never (renamed (election a p) f) on (record { one_or_lift = renaming; premise = refl; conclusion_false = fails }))

@@ -9,7 +9,7 @@ use Rattle.vir_term.specs.declared.prop.Prop.TheVariants.{Ne, Ea, El, Defers, Re
 use Rattle.vir_term.specs.declared.prop.Prop.TheVariants.{Dimono, Dmono, Mono, Cc, Dcc, Cprog, Ccomp}
 use Rattle.vir_mean.specs.Modules.{Meaning}
 use Rattle.vir_mean.specs.Properties.{Holds, OnLifts, StaysOrBecomes}
-use Rattle.vir_refute.specs.Cases.{Election, one, pair, split_by, IsLift}
+use Rattle.vir_refute.specs.Cases.{Election, one, pair, renamed, split_by, IsLift}
 use Rattle.vir_refute.specs.Violations.{PremiseOnOne, ConclusionOnOne, PremiseOnLift, ConclusionOnLift}
 use Rattle.vir_refute.specs.Violations.{IsNeverViolated}
 
@@ -70,3 +70,6 @@ never_violated prop m holds (one e) on violates =
 never_violated prop m holds (pair e f x) on violates =
     violates.conclusion_false
     (concluded_on_lift prop m holds e f x on.0 on.1 violates.one_or_lift violates.premise)
+never_violated prop m holds (renamed e f) on violates =
+    violates.conclusion_false
+    (subst (λ (p : Prop). Holds p m) violates.premise holds e.members e.lines f on violates.one_or_lift)

@@ -8,8 +8,9 @@ use Rattle.vir_term.specs.declared.prop.Prop.{Prop}
 use Rattle.vir_term.specs.declared.prop.Prop.TheVariants.{Ne, Ea, El, Defers, Rejects, Elim, Nb, Decr, Dli, Imono}
 use Rattle.vir_term.specs.declared.prop.Prop.TheVariants.{Dimono, Dmono, Mono, Cc, Dcc, Cprog, Ccomp, Neut}
 use Rattle.vir_mean.specs.Modules.{Meaning}
+use Rattle.vir_mean.specs.Neutrality.{renamed_split}
 use Rattle.vir_mean.specs.Properties.{just, StaysOrBecomes, MakesProgress, IsCompatible}
-use Rattle.vir_refute.specs.Cases.{Election, Case, one, pair, split_by, AreElections, IsOneOrLift}
+use Rattle.vir_refute.specs.Cases.{Election, Case, one, pair, renamed, split_by, under, AreElections, IsOneOrLift}
 
 -- whether the property is about lifts: about what becomes of one alternative from one election to another
 abbrev pub is_on_lifts : Prop → Bool
@@ -20,10 +21,11 @@ is_on_lifts Dmono = true
 is_on_lifts Mono = true
 is_on_lifts _ = false
 
--- The property is about such cases: about pairs of elections, or about one. Neutrality is about no such case.
+-- The property is about such cases: about pairs of elections, about one, or about new names.
 abbrev pub IsAbout : Prop → Case → Type 0
 IsAbout prop (one e) = (is_on_lifts prop ≡ false) × (prop ≢ Neut)
 IsAbout prop (pair e f x) = is_on_lifts prop ≡ true
+IsAbout prop (renamed e f) = prop ≡ Neut
 
 -- an election with a Condorcet winner
 abbrev pub HasWinner : Election → Type 0
@@ -94,11 +96,13 @@ ConclusionOnLift _ x s t = Unit {0}
 abbrev pub Premise : Prop → Meaning → Case → Type 0
 Premise prop m (one e) = PremiseOnOne prop e
 Premise prop m (pair e f x) = PremiseOnLift prop x (split_by m e)
+Premise prop m (renamed e f) = prop ≡ Neut
 
 -- the conclusion in a case
 abbrev pub Conclusion : Prop → Meaning → Case → Type 0
 Conclusion prop m (one e) = ConclusionOnOne prop e (split_by m e)
 Conclusion prop m (pair e f x) = ConclusionOnLift prop x (split_by m e) (split_by m f)
+Conclusion prop m (renamed e f) = split_by m (under f e) ≡ renamed_split f (split_by m e)
 
 -- The case violates the property of the meaning.
 pub record Violates (prop : Prop) (m : Meaning) (c : Case) : Type 0 where

@@ -3,6 +3,7 @@
 //! What holds of a rule, as a theorem, is derived in other layers; what doesn't hold is shown by a case.
 //! A `Case` is a profile, or two and the alternative that is said to be lifted between them. It violates a
 //! property where the property's premise is true of it and its conclusion false (`specs/Violations.antt`).
+//! The definitions have a third kind of case, an election under new names, by which neutrality is violated.
 //! The one contract of this layer: `judge_case` says *violated* of exactly the cases that violate the
 //! property, and else gives the first reason why not; and what is violated is false of the rule, and has no
 //! valid derivation. That premises and conclusions are the right ones is a law: a property holds of a rule
@@ -26,4 +27,6 @@ pub use about::{is_about, is_on_lifts};
 pub use case::Case;
 pub use judge::judge_case;
 pub use laws::properties_hold_unless_violated;
+pub use sets::same_split;
+pub use split::split_of;
 pub use verdict::{CaseVerdict, Reason};
