@@ -1,7 +1,7 @@
 // The term that a tree stands for.
-ghost use Rattle.std.specs.Prelude.{ℕ, ◌≡◌, ◌≤◌, ◌+◌, [], length, IsTrue, IfOk};
-ghost use Rattle.vir_term.specs.Tree.{tree};
-ghost use Rattle.vir_term.specs.Limits.{nesting_limit, IsWithinLimits};
+ghost use Rattle.std.specs.Prelude.{ℕ, ◌≡◌, ◌≤◌, ◌+◌, List, [], length, Some, IsTrue, IfOk};
+ghost use Rattle.vir_term.specs.Tree.{Tree, tree, size};
+ghost use Rattle.vir_term.specs.Limits.{nesting_limit, size_limit, IsWithinLimits};
 ghost use Rattle.vir_read.specs.Faults.{Gives};
 ghost use Rattle.vir_read.specs.RawTrees.{raw_tree, listed, gathered};
 ghost use Rattle.vir_read.specs.BuiltIns.{built_in_named, takes};
@@ -62,62 +62,27 @@ fn no_order(alloc: Global) -> FixedOrder
     }
 }
 
-// A module with a number and, if wanted, a fixed order.
-fn build_ordered(
+// What the trees of a text are typed by: the text, and the terms that its names stand for.
+#[derive(Drop)]
+struct Context<'a, M: SharedNames> {
     alloc: Global,
-    text: &[u8],
-    ordered: Ordered,
-    parts: &RawList,
-) -> Result<Built, TextError>
-    requires { IsTrue (takes (BuiltIn.Ordered ordered) (length (listed parts.now))) }
-    ensures { (names : Names) (at level : ℕ) → Builds result (composition_of text.now names at level
-        (BuiltIn.Ordered ordered) (arguments_of text.now names (gathered (listed parts.now)))) }
-{
-    if let Some(k) = one(parts) {
-        let k = count_of(text, k)?;
-        return build_leaf(alloc, ordered_leaf(ordered, k, no_order(alloc)));
-    }
-    let Some((k, order)) = two(parts) else {
-        unreachable!()
-    };
-    let k = count_of(text, k)?;
-    let order = order_of(alloc, text, order)?;
-    build_leaf(alloc, ordered_leaf(ordered, k, order))
-}
-
-// A module with a score.
-fn build_eliminator<M: SharedNames>(
-    alloc: Global,
-    text: &[u8],
-    eliminator: Eliminator,
-    parts: &RawList,
-    names: &M,
-) -> Result<Built, TextError>
-    requires { length (listed parts.now) ≡ 1 }
-    ensures { (at level : ℕ) → Builds result (composition_of text.now (M.meaning names.now) at level
-        (BuiltIn.Eliminator eliminator) (arguments_of text.now (M.meaning names.now) (gathered (listed parts.now)))) }
-{
-    let Some(score) = one(parts) else {
-        unreachable!()
-    };
-    let score = score_argument(text, names, score)?;
-    build_leaf(alloc, eliminator_leaf(eliminator, score))
+    text: &'a [u8],
+    names: &'a M,
+    ghost within: { (name : List ℕ) (t : Tree) → M.meaning names.now name ≡ Some t → size t ≤ size_limit },
 }
 
 // The term of a defined name, which is shared.
 fn share_defined<M: SharedNames>(
-    alloc: Global,
+    context: &Context<M>,
     name: &[u8],
     count: usize,
-    names: &M,
     level: u32,
     at: usize,
 ) -> Result<Built, TextError>
-    requires level { level ≤ nesting_limit + 1 }
-    requires names { AreWithinLimits (M.meaning names.now) }
-    ensures { Builds result (defined_term at level count (M.meaning names.now name.now)) }
+    requires { level ≤ nesting_limit + 1 }
+    ensures { Builds result (defined_term at level count (M.meaning context.now.names.now name.now)) }
 {
-    match names.share(alloc, name) {
+    match context.names.share(context.alloc, name) {
         Err(_) => Err(TextError::Memory),
         Ok(None) => Err(TextError::fault(TextKind::UnknownName, at)),
         Ok(Some(term)) => {
@@ -133,115 +98,67 @@ fn share_defined<M: SharedNames>(
     }
 }
 
-#[cycle(typing)]
-fn build_rev_of<M: SharedNames>(
-    alloc: Global,
-    text: &[u8],
-    parts: &RawList,
-    names: &M,
-    level: u32,
-) -> Result<Built, TextError>
-    requires one { length (listed parts.now) ≡ 1 }
-    requires level { level ≤ nesting_limit }
-    requires names { AreWithinLimits (M.meaning names.now) }
-    ensures { (at : ℕ) → Builds result (composition_of text.now (M.meaning names.now) at level BuiltIn.Rev
-        (arguments_of text.now (M.meaning names.now) (gathered (listed parts.now)))) }
-{
-    let Some(part) = one(parts) else {
-        unreachable!()
-    };
-    let part = build_term(alloc, text, part, names, level + 1)?;
-    build_rev(alloc, part)
-}
-
-#[cycle(typing)]
-fn build_loop_of<M: SharedNames>(
-    alloc: Global,
-    text: &[u8],
-    end: LoopEnd,
-    parts: &RawList,
-    names: &M,
-    level: u32,
-) -> Result<Built, TextError>
-    requires two { length (listed parts.now) ≡ 2 }
-    requires level { level ≤ nesting_limit }
-    requires names { AreWithinLimits (M.meaning names.now) }
-    ensures { (at : ℕ) → Builds result (composition_of text.now (M.meaning names.now) at level (BuiltIn.Loop end)
-        (arguments_of text.now (M.meaning names.now) (gathered (listed parts.now)))) }
-{
-    let Some((k, body)) = two(parts) else {
-        unreachable!()
-    };
-    let k = count_of(text, k)?;
-    let body = build_term(alloc, text, body, names, level + 1)?;
-    build_loop(alloc, end, k, body)
-}
-
-#[cycle(typing)]
-fn build_pair_of<M: SharedNames>(
-    alloc: Global,
-    text: &[u8],
-    pair: Pair,
-    parts: &RawList,
-    names: &M,
-    level: u32,
-) -> Result<Built, TextError>
-    requires two { length (listed parts.now) ≡ 2 }
-    requires level { level ≤ nesting_limit }
-    requires names { AreWithinLimits (M.meaning names.now) }
-    ensures { (at : ℕ) → Builds result (composition_of text.now (M.meaning names.now) at level (BuiltIn.Pair pair)
-        (arguments_of text.now (M.meaning names.now) (gathered (listed parts.now)))) }
-{
-    let Some((first, second)) = two(parts) else {
-        unreachable!()
-    };
-    let first = build_term(alloc, text, first, names, level + 1)?;
-    let second = build_term(alloc, text, second, names, level + 1)?;
-    build_pair(alloc, pair, first, second)
-}
-
 // A built-in word with as many arguments as it takes, which is not too deep.
 #[cycle(typing)]
 fn build_composition<M: SharedNames>(
-    alloc: Global,
-    text: &[u8],
+    context: &Context<M>,
     word: BuiltIn,
     parts: &RawList,
-    names: &M,
     level: u32,
 ) -> Result<Built, TextError>
     requires takes { IsTrue (takes word (length (listed parts.now))) }
     requires level { level ≤ nesting_limit }
-    requires names { AreWithinLimits (M.meaning names.now) }
-    ensures { (at : ℕ) → Builds result (composition_of text.now (M.meaning names.now) at level word
-        (arguments_of text.now (M.meaning names.now) (gathered (listed parts.now)))) }
+    ensures { (at : ℕ) → Builds result (composition_of context.now.text.now (M.meaning context.now.names.now) at level
+        word (arguments_of context.now.text.now (M.meaning context.now.names.now) (gathered (listed parts.now)))) }
 {
-    match word {
-        BuiltIn::Plain(plain) => build_leaf(alloc, plain_leaf(plain)),
-        BuiltIn::Ordered(ordered) => build_ordered(alloc, text, ordered, parts),
-        BuiltIn::Eliminator(eliminator) => build_eliminator(alloc, text, eliminator, parts, names),
-        BuiltIn::Rev => build_rev_of(alloc, text, parts, names, level),
-        BuiltIn::Pair(pair) => build_pair_of(alloc, text, pair, parts, names, level),
-        BuiltIn::Loop(end) => build_loop_of(alloc, text, end, parts, names, level),
-        BuiltIn::OnlyScore(_) => unreachable!(),
+    match (word, one(parts), two(parts)) {
+        (BuiltIn::Plain(plain), ..) => build_leaf(context.alloc, plain_leaf(plain)),
+        (BuiltIn::Ordered(ordered), Some(k), _) => {
+            let k = count_of(context.text, k)?;
+            build_leaf(
+                context.alloc,
+                ordered_leaf(ordered, k, no_order(context.alloc)),
+            )
+        }
+        (BuiltIn::Ordered(ordered), _, Some((k, order))) => {
+            let k = count_of(context.text, k)?;
+            let order = order_of(context.alloc, context.text, order)?;
+            build_leaf(context.alloc, ordered_leaf(ordered, k, order))
+        }
+        (BuiltIn::Eliminator(eliminator), Some(score), _) => {
+            let score = score_argument(context.text, context.names, score)?;
+            build_leaf(context.alloc, eliminator_leaf(eliminator, score))
+        }
+        (BuiltIn::Rev, Some(part), _) => {
+            let part = build_term(context, part, level + 1)?;
+            build_rev(context.alloc, part)
+        }
+        (BuiltIn::Pair(pair), _, Some((first, second))) => {
+            let first = build_term(context, first, level + 1)?;
+            let second = build_term(context, second, level + 1)?;
+            build_pair(context.alloc, pair, first, second)
+        }
+        (BuiltIn::Loop(end), _, Some((k, body))) => {
+            let k = count_of(context.text, k)?;
+            let body = build_term(context, body, level + 1)?;
+            build_loop(context.alloc, end, k, body)
+        }
+        _ => unreachable!(),
     }
 }
 
 #[cycle(typing)]
 #[tactic(auto, using(crate::proofs::TypingLemmas::length_arguments_of))]
 fn build_built_in<M: SharedNames>(
-    alloc: Global,
-    text: &[u8],
+    context: &Context<M>,
     word: BuiltIn,
     parts: &RawList,
-    names: &M,
     level: u32,
     at: usize,
 ) -> Result<Built, TextError>
-    requires level { level ≤ nesting_limit + 1 }
-    requires names { AreWithinLimits (M.meaning names.now) }
-    ensures { Builds result (built_in_term text.now (M.meaning names.now) at level word
-        (arguments_of text.now (M.meaning names.now) (gathered (listed parts.now)))) }
+    requires { level ≤ nesting_limit + 1 }
+    ensures { Builds result (built_in_term context.now.text.now (M.meaning context.now.names.now) at level word
+        (arguments_of context.now.text.now (M.meaning context.now.names.now) (gathered (listed parts.now)))) }
 {
     if word.is_only_score() {
         return Err(TextError::fault(TextKind::WrongSort, at));
@@ -252,53 +169,46 @@ fn build_built_in<M: SharedNames>(
     if level > NESTING_LIMIT {
         return Err(TextError::fault(TextKind::TooDeep, at));
     }
-    build_composition(alloc, text, word, parts, names, level)
+    build_composition(context, word, parts, level)
 }
 
 #[cycle(typing)]
 #[tactic(auto, using(crate::proofs::TypingLemmas::length_arguments_of))]
 fn build_word<M: SharedNames>(
-    alloc: Global,
-    text: &[u8],
+    context: &Context<M>,
     name: &[u8],
     parts: &RawList,
-    names: &M,
     level: u32,
     at: usize,
 ) -> Result<Built, TextError>
-    requires level { level ≤ nesting_limit + 1 }
-    requires names { AreWithinLimits (M.meaning names.now) }
-    ensures { Builds result (word_term text.now (M.meaning names.now) at level name.now
-        (arguments_of text.now (M.meaning names.now) (gathered (listed parts.now))) (built_in_named name.now)) }
+    requires { level ≤ nesting_limit + 1 }
+    ensures { Builds result (word_term context.now.text.now (M.meaning context.now.names.now) at level name.now
+        (arguments_of context.now.text.now (M.meaning context.now.names.now) (gathered (listed parts.now)))
+        (built_in_named name.now)) }
 {
     match built_in_named(name) {
-        Some(word) => build_built_in(alloc, text, word, parts, names, level, at),
-        None => share_defined(alloc, name, parts.len(), names, level, at),
+        Some(word) => build_built_in(context, word, parts, level, at),
+        None => share_defined(context, name, parts.len(), level, at),
     }
 }
 
 // What is kept of the term of a tree, where a term is wanted at a level of nesting.
 #[cycle(typing)]
 fn build_term<M: SharedNames>(
-    alloc: Global,
-    text: &[u8],
+    context: &Context<M>,
     raw: &Raw,
-    names: &M,
     level: u32,
 ) -> Result<Built, TextError>
-    requires level { level ≤ nesting_limit + 1 }
-    requires names { AreWithinLimits (M.meaning names.now) }
-    ensures { Builds result (term_at text.now (M.meaning names.now) (raw_tree raw.now) level) }
+    requires { level ≤ nesting_limit + 1 }
+    ensures { Builds result (term_at context.now.text.now (M.meaning context.now.names.now) (raw_tree raw.now) level) }
 {
     match raw {
         Raw::Number { start, .. } => Err(TextError::fault(TextKind::WrongSort, *start as usize)),
         Raw::List { start, .. } => Err(TextError::fault(TextKind::WrongSort, *start as usize)),
         Raw::Word { start, end, parts } => build_word(
-            alloc,
-            text,
-            span(text, *start, *end),
+            context,
+            span(context.text, *start, *end),
             parts,
-            names,
             level,
             *start as usize,
         ),
@@ -316,7 +226,7 @@ fn term_in_size<M: SharedNames>(
     requires { AreWithinLimits (M.meaning names.now) }
     ensures { Gives shared.tree result (term_of text.now (M.meaning names.now) at (raw_tree raw.now)) }
 {
-    match build_term(alloc, text, raw, names, 1) {
+    match build_term(&Context { alloc, text, names }, raw, 1) {
         Ok(Built::Small { term, .. }) => Ok(term),
         Ok(Built::Large) => Err(TextError::fault(TextKind::TooLarge, at)),
         Err(e) => Err(e),
