@@ -5,7 +5,7 @@ use Rattle.std.proofs.Common.{◌∙◌, refl}
 use Rattle.std.proofs.Common.{arith, append_assoc, ◌≢◌, ◌||◌, get_or, Option, replicate}
 use Rattle.std.proofs.Math.ListN.{set as put}
 use Rattle.std.proofs.lemmas.List.{get_or-replicate, get_or-set_other, get_or-set_same, get_or_append_left}
-use Rattle.std.proofs.lemmas.List.{length-append, length-replicate}
+use Rattle.std.proofs.lemmas.List.{length-append}
 use Rattle.std.specs.Prelude.{All}
 use Rattle.std.specs.List.{after_first, before_first, list_any, prefix_len, slice_split}
 use Rattle.std.proofs.lemmas.Bool.Decides.{nat_tests}
@@ -242,10 +242,6 @@ AreSeen m seen order = (y : ℕ) → y ≤ m → get_or seen y false ≡ list_an
 -- at first none is marked
 pub seen_none : (m n : ℕ) → m < n → AreSeen m (replicate n false) []
 seen_none m n l y low = get_or-replicate n y false false (omega arith)
-
--- as many marks
-pub length-seen_none : (m n : ℕ) → m < n → m < length (replicate n false)
-length-seen_none m n l = let e = length-replicate n false in omega arith
 
 or-met : (b : Bool) → (b || (true || false)) ≡ true
 or-met true = refl

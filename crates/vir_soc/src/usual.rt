@@ -1,7 +1,7 @@
 // Lines of votes in their usual shape, which are read in one pass over the bytes that they begin. A line feed stands
 // somewhere in these bytes, and each function here stops at it at the latest. So no function asks whether there is a
 // further byte.
-ghost use Rattle.std.specs.Prelude.{◌≡◌, ◌≤◌, ◌<◌, ◌^◌, ◌++◌, ◌∷◌, decimal, drop, length, nat_eq, IfSome};
+ghost use Rattle.std.specs.Prelude.{◌≡◌, ◌≤◌, ◌<◌, ◌^◌, ℕ, List, [], ◌++◌, ◌∷◌, decimal, drop, length, nat_eq, replicate, false, IfSome};
 ghost use Rattle.std.specs.List.{prefix_len};
 ghost use Rattle.vir_altset.specs.Sets.{limit};
 ghost use Rattle.vir_soc.specs.Reader.UsualLines.{BeginsWithOrder, BeginsWithVotes, HasLineFeed};
@@ -72,73 +72,85 @@ fn unspaced(text: &[u8]) -> &[u8]
     &text[from..]
 }
 
-/// The order of all m alternatives, which are few, that the bytes begin with in the usual shape, and what stands
-/// behind it.
-fn few_order<'a>(m: u16, bytes: &'a [u8]) -> Option<(Few, &'a [u8])>
-    requires few { m ≤ ALTERNATIVES_IN_PLACE }
-    requires feed { HasLineFeed bytes.now }
-    ensures { IfSome result (λ r. BeginsWithOrder m bytes.now r.0 r.1.now) }
-{
-    let mut order = Few::none();
-    let mut seen = [false; ALTERNATIVES_IN_PLACE + 1];
-    let mut rest = bytes;
-    loop {
-        let next = leading_number(unspaced(rest))?;
-        if next.number > u64::from(m) {
-            return None;
-        }
-        let x = next.number as usize;
-        if seen[x] {
-            return None;
-        }
-        seen[x] = true;
-        order.push(next.number as u8);
-        if order.len() >= usize::from(m) {
-            return Some((order, next.rest));
-        }
-        rest = behind(b',', next.rest)?;
+/// A list of places that grows as an order is read.
+trait Places: Drop {
+    /// What it lists.
+    ghost list: { Self → List ℕ };
+
+    /// It takes so many places, each up to this number.
+    ghost most: { ℕ };
+
+    /// Appends a place; None where memory is wanting.
+    fn put(&mut self, place: u64) -> Option<()>
+        requires small { place ≤ most }
+        requires room { length (list self.old) < most }
+        ensures { IfSome result (λ _. list self.new ≡ list self.old ++ place ∷ []) };
+
+    /// How many places it lists.
+    fn count(&self) -> usize
+        ensures { result ≡ length (list self.now) };
+}
+
+impl Places for Few {
+    ghost list = { λ few. few };
+
+    ghost most = { 14 };
+
+    fn put(&mut self, place: u64) -> Option<()> {
+        self.push(place as u8);
+        Some(())
+    }
+
+    fn count(&self) -> usize {
+        self.len()
     }
 }
 
-/// The order of all m alternatives, each of which fits a byte, that the bytes begin with in the usual shape, and
-/// what stands behind it; None also where memory is wanting.
-fn byte_order<'a>(alloc: Global, m: u16, bytes: &'a [u8]) -> Option<(Vec<u8>, &'a [u8])>
-    requires few { m ≤ NARROW }
-    requires feed { HasLineFeed bytes.now }
-    ensures { IfSome result (λ r. BeginsWithOrder m bytes.now r.0.items r.1.now) }
-{
-    let mut order: Vec<u8> = Vec::with_capacity(alloc, usize::from(m)).ok()?;
-    let mut seen = [false; NARROW + 1];
-    let mut rest = bytes;
-    loop {
-        let next = leading_number(unspaced(rest))?;
-        if next.number > u64::from(m) {
-            return None;
-        }
-        let x = next.number as usize;
-        if seen[x] {
-            return None;
-        }
-        seen[x] = true;
-        let Ok(()) = order.push(next.number as u8) else {
-            return None;
-        };
-        if order.len() >= usize::from(m) {
-            return Some((order, next.rest));
-        }
-        rest = behind(b',', next.rest)?;
+impl Places for Vec<u8> {
+    ghost list = { λ places. places.items };
+
+    ghost most = { 255 };
+
+    fn put(&mut self, place: u64) -> Option<()> {
+        self.push(place as u8).ok()
+    }
+
+    fn count(&self) -> usize {
+        self.len()
+    }
+}
+
+impl Places for Vec<u16> {
+    ghost list = { λ places. places.items };
+
+    ghost most = { 1024 };
+
+    fn put(&mut self, place: u64) -> Option<()> {
+        self.push(place as u16).ok()
+    }
+
+    fn count(&self) -> usize {
+        self.len()
     }
 }
 
 /// The order of all m alternatives that the bytes begin with in the usual shape, and what stands behind it; None
-/// also where memory is wanting.
-fn wide_order<'a>(alloc: Global, m: u16, bytes: &'a [u8]) -> Option<(Vec<u16>, &'a [u8])>
+/// also where memory is wanting. The places are put behind none, and no number is marked as seen.
+fn places_of<'a, P: Places>(
+    m: u16,
+    none: P,
+    seen: &mut [bool],
+    bytes: &'a [u8],
+) -> Option<(P, &'a [u8])>
     requires few { m ≤ limit }
+    requires most { m ≤ P.most }
+    requires none { P.list none ≡ [] }
+    requires size { m < length seen.old }
+    requires unseen { seen.old ≡ replicate (length seen.old) false }
     requires feed { HasLineFeed bytes.now }
-    ensures { IfSome result (λ r. BeginsWithOrder m bytes.now r.0.items r.1.now) }
+    ensures { IfSome result (λ r. BeginsWithOrder m bytes.now (P.list r.0) r.1.now) }
 {
-    let mut order: Vec<u16> = Vec::with_capacity(alloc, usize::from(m)).ok()?;
-    let mut seen = [false; MARKS];
+    let mut order = none;
     let mut rest = bytes;
     loop {
         let next = leading_number(unspaced(rest))?;
@@ -150,10 +162,8 @@ fn wide_order<'a>(alloc: Global, m: u16, bytes: &'a [u8]) -> Option<(Vec<u16>, &
             return None;
         }
         seen[x] = true;
-        let Ok(()) = order.push(next.number as u16) else {
-            return None;
-        };
-        if order.len() >= usize::from(m) {
+        order.put(next.number)?;
+        if order.count() >= usize::from(m) {
             return Some((order, next.rest));
         }
         rest = behind(b',', next.rest)?;
@@ -167,18 +177,26 @@ fn usual_order<'a>(alloc: Global, m: u16, bytes: &'a [u8]) -> Option<(Ballot, &'
     requires feed { HasLineFeed bytes.now }
     ensures { IfSome result (λ r. BeginsWithOrder m bytes.now r.0 r.1.now) }
 {
-    if usize::from(m) <= ALTERNATIVES_IN_PLACE {
-        let (few, rest) = few_order(m, bytes)?;
+    let room = usize::from(m);
+    if room <= ALTERNATIVES_IN_PLACE {
+        let (few, rest) = places_of(
+            m,
+            Few::none(),
+            &mut [false; ALTERNATIVES_IN_PLACE + 1],
+            bytes,
+        )?;
         return Some((Ballot::of_few(few), rest));
     }
-    if usize::from(m) <= NARROW {
-        let (places, rest) = byte_order(alloc, m, bytes)?;
+    if room <= NARROW {
+        let none: Vec<u8> = Vec::with_capacity(alloc, room).ok()?;
+        let (places, rest) = places_of(m, none, &mut [false; NARROW + 1], bytes)?;
         if places.len() > NARROW {
             return None;
         }
         return Some((Ballot::of_bytes(alloc, places).ok()?, rest));
     }
-    let (places, rest) = wide_order(alloc, m, bytes)?;
+    let none: Vec<u16> = Vec::with_capacity(alloc, room).ok()?;
+    let (places, rest) = places_of(m, none, &mut [false; MARKS], bytes)?;
     Some((Ballot::of(alloc, places).ok()?, rest))
 }
 
