@@ -1,5 +1,6 @@
 -- The cases of a profile, by the kind of the property.
-use Rattle.std.proofs.Common.{◌≡◌, ◌≢◌, ◌⊎◌, inl, inr, ℕ, ◌-◌, Bool, true, false, true≢false, cond, List, [], ◌∷◌, map, refl}
+use Rattle.std.proofs.Common.{◌≡◌, ◌≢◌, ◌⊎◌, inl, inr, ℕ, ◌-◌, Bool, true, false, true≢false, cond}
+use Rattle.std.proofs.Common.{List, [], ◌∷◌, map, refl}
 use Rattle.std.proofs.Common.{ap, ◌∙◌, sym}
 use Rattle.vir_profile.specs.declared.ballot.Entry.{Entry}
 use Rattle.vir_term.specs.declared.prop.Prop.{Prop}

@@ -88,7 +88,8 @@ module _ (prop : Prop) (f : Meaning) (goes : GoesByWeights f) (splits : Splits f
         (case_among prop most voters m (total_weight lines) (canonical (orders m) lines) c some few light
         (among_spread (orders m) lines (total_weight lines) (covered_profile m lines on_it) refl) is)
 
-    on_each : is_on_lifts prop ≡ false → is_neutrality prop ≡ false → (lines : List Entry) → IsProfileOn (all m) lines → total_weight lines ≤ voters
+    on_each : is_on_lifts prop ≡ false → is_neutrality prop ≡ false
+        → (lines : List Entry) → IsProfileOn (all m) lines → total_weight lines ≤ voters
         → PremiseOnOne prop (on (all m) lines) → ConclusionOnOne prop (on (all m) lines) (f (all m) lines)
     on_each kind other lines on_it light premise =
         let alike = tried-alike lines on_it in
@@ -247,7 +248,8 @@ module _ (prop : Prop) (f : Meaning) (goes : GoesByWeights f) (splits : Splits f
       (λ kind. subst (λ (t : Set). IsProfileOn t g.lines → Says prop x (f e.members e.lines) (f t g.lines)) is.same
       (subst (λ (s : Set). set.contains s x ≡ true → IsProfileOn s e.lines → IsProfileOn s g.lines
       → Says prop x (f s e.lines) (f s g.lines)) (sym within.members)
-      (λ inside on_e on_g. on_lifts within.number within.some within.few kind x inside e.lines g.lines is.lifted on_e on_g
+      (λ inside on_e on_g.
+      on_lifts within.number within.some within.few kind x inside e.lines g.lines is.lifted on_e on_g
       within.weights) is.member are.0.lists) are.1.lists premise)
       (λ kind. absurd (never_on_lift prop x (f e.members e.lines) kind premise))
   holds_up_to (renamed e g) are within is premise =

@@ -1,5 +1,6 @@
 -- When an exchange of two neighbours violates neutrality.
-use Rattle.std.proofs.Common.{◌≡◌, ◌↔◌, ℕ, ◌+◌, ◌≤◌, Bool, true, false, true≢false, not, IsTrue, refl, sym, ap, ◌∙◌, arith}
+use Rattle.std.proofs.Common.{◌≡◌, ◌↔◌, ℕ, ◌+◌, ◌≤◌, Bool, true, false, true≢false, not, IsTrue}
+use Rattle.std.proofs.Common.{refl, sym, ap, ◌∙◌, arith}
 use Rattle.vir_altset.specs.declared.split.Split.{Split}
 use Rattle.vir_profile.specs.Profiles.{Votes}
 use Rattle.vir_term.specs.declared.prop.Prop.TheVariants.{Neut}
@@ -24,7 +25,8 @@ module _ (f : Meaning) (votes other : Votes) (i : ℕ) (before after : Split) (l
       → IsTrue (not b) ↔ Violates Neut f (renamed (election_of votes) (exchanging i))
   violated_by_exchange true same = (
     λ h. absurd (true≢false (sym h)),
-    λ violates. absurd (violates.conclusion_false (sym under_names ∙ same.0 refl ∙ ap (renamed_split (exchanging i)) first)),
+    λ violates.
+        absurd (violates.conclusion_false (sym under_names ∙ same.0 refl ∙ ap (renamed_split (exchanging i)) first)),
   )
   violated_by_exchange false same = (
     λ h. record {

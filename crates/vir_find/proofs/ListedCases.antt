@@ -1,5 +1,6 @@
 -- Each case that is listed is of that size.
-use Rattle.std.proofs.Common.{◌≡◌, ◌≢◌, ◌↔◌, inl, inr, ℕ, zero, suc, ◌+◌, ◌-◌, ◌<◌, ◌≤◌, Bool, true, false, cond, nat_eq}
+use Rattle.std.proofs.Common.{◌≡◌, ◌≢◌, ◌↔◌, inl, inr, ℕ, zero, suc, ◌+◌, ◌-◌, ◌<◌, ◌≤◌}
+use Rattle.std.proofs.Common.{Bool, true, false, cond, nat_eq}
 use Rattle.std.proofs.Common.{List, [], ◌∷◌, ◌++◌, map, length, refl, sym, ap, ◌∙◌, arith, subst}
 use Rattle.std.proofs.lemmas.Bool.Decides.{nat_tests}
 use Rattle.std.proofs.lemmas.List.Elements.{All-nil, All-cons, All-head, All-tail, All-append, All-weaker, All-map}
@@ -22,7 +23,8 @@ use Rattle.vir_refute.specs.Violations.{is_on_lifts, Violates}
 use Rattle.vir_find.specs.Permutations.{up_to, permutations, orders}
 use Rattle.vir_find.specs.Raises.{Raise, behind, raises, Lift, behind_line, line_lift, single_lifts}
 use Rattle.vir_find.specs.Spreads.{with_line, down_from, spread}
-use Rattle.vir_find.specs.Trials.{election, lift_case, exchange_case, is_neutrality, cases_of, cases_at, cases_on, cases}
+use Rattle.vir_find.specs.Trials.{election, lift_case, exchange_case, is_neutrality}
+use Rattle.vir_find.specs.Trials.{cases_of, cases_at, cases_on, cases}
 use Rattle.vir_find.specs.UpTo.{IsWithin, IsUpTo, HoldsUpTo}
 use Rattle.vir_find.proofs.CaseKinds.{neutrality, cases_of-lifts, cases_of-exchanges, cases_of-one}
 use Rattle.vir_find.proofs.Completeness.{complete}
@@ -142,7 +144,8 @@ total-with_line zero order lines = none (total_weight lines)
   where
     none : (n : ℕ) → n ≡ 0 + n
     none n = omega arith
-total-with_line (suc w) order lines = sum_by-cons (λ (e : Entry). e.weight) (record { weight = suc w; order = order }) lines
+total-with_line (suc w) order lines =
+    sum_by-cons (λ (e : Entry). e.weight) (record { weight = suc w; order = order }) lines
 
 all_with_line : (P : Entry → Type 0) (w : ℕ) (order : List ℕ) (lines : List Entry)
     → ((v : ℕ) → P (record { weight = suc v; order = order })) → All P lines → All P (with_line w order lines)

@@ -17,7 +17,8 @@ use Rattle.vir_refute.proofs.AllMembers.{member_of_all, within_all}
 use Rattle.vir_find.specs.Exchanges.{exchanging}
 use Rattle.vir_find.proofs.Lists.{by_number}
 use Rattle.vir_find.proofs.Renamings.{same_truth, total_weight-renamed, renamed_lines-twice, renamed_split-twice}
-use Rattle.vir_find.proofs.Renamings.{renamed_set-fixed, renamed_lines-fixed, IsOnto, value_inside, renamed_on, onto-twice}
+use Rattle.vir_find.proofs.Renamings.{renamed_set-fixed, renamed_lines-fixed, IsOnto, value_inside}
+use Rattle.vir_find.proofs.Renamings.{renamed_on, onto-twice}
 
 -- ---- one exchange
 pub exchanged_first : (i x : ℕ) → x ≡ i → exchanging i x ≡ suc i
@@ -63,7 +64,8 @@ exchanged_inside m i x low high inside = by_number x i
     (λ e. subst (λ y. set.contains (all m) y ≡ true) (sym (exchanged_first i x e))
     (member_of_all m (suc i) (omega arith) high))
     (λ one. by_number x (suc i)
-    (λ e. subst (λ y. set.contains (all m) y ≡ true) (sym (exchanged_second i x e)) (member_of_all m i low (omega arith)))
+    (λ e.
+    subst (λ y. set.contains (all m) y ≡ true) (sym (exchanged_second i x e)) (member_of_all m i low (omega arith)))
     (λ two. subst (λ y. set.contains (all m) y ≡ true) (sym (exchanged_other i x one two)) inside))
 
 pub exchange_onto : (m i : ℕ) → 1 ≤ i → suc i ≤ m → IsOnto m (exchanging i)
@@ -105,7 +107,8 @@ module _ (m voters : ℕ) (f : Meaning) (splits : Splits f) where
   keeps-twice : (h g : ℕ → ℕ) → IsOnto m g → Keeps h → Keeps g → Keeps (λ x. h (g x))
   keeps-twice h g is second first q on light =
       ap (f (all m)) (sym (renamed_lines-twice h g q))
-      ∙ second (renamed_lines g q) (renamed_on m g is q on) (subst (λ n. n ≤ voters) (sym (total_weight-renamed g q)) light)
+      ∙ second (renamed_lines g q) (renamed_on m g is q on)
+      (subst (λ n. n ≤ voters) (sym (total_weight-renamed g q)) light)
       ∙ ap (renamed_split h) (first q on light)
       ∙ renamed_split-twice h g (f (all m) q)
 
@@ -116,8 +119,10 @@ module _ (m voters : ℕ) (f : Meaning) (splits : Splits f) where
       let stays = λ (x : ℕ) (inside : set.contains (all m) x ≡ true). fixed x (within_all m x inside).0
       (within_all m x inside).1 in
       let elected = renamed_set-fixed g (f (all m) q).elected (λ x inside. stays x (first _ _ _ _ (parts x) inside)) in
-      let rejected = renamed_set-fixed g (f (all m) q).rejected (λ x inside. stays x (second _ _ _ _ (parts x) inside)) in
-      let deferred = renamed_set-fixed g (f (all m) q).deferred (λ x inside. stays x (third _ _ _ _ (parts x) inside)) in
+      let rejected =
+      renamed_set-fixed g (f (all m) q).rejected (λ x inside. stays x (second _ _ _ _ (parts x) inside)) in
+      let deferred =
+      renamed_set-fixed g (f (all m) q).deferred (λ x inside. stays x (third _ _ _ _ (parts x) inside)) in
       ap (f (all m)) (renamed_lines-fixed m g is stays q on)
       ∙ sym (λ i. record { elected = elected i; rejected = rejected i; deferred = deferred i })
     where

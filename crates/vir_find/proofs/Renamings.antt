@@ -103,7 +103,8 @@ module _ (m : ℕ) (f : ℕ → ℕ) (is : IsOnto m f) where
       let listing = All-head (λ (line : Entry). IsListing (all m) line.order) line lines on in
       let here = map-fixed f line.order (λ x some. fixed x
       (member_listed f (all m) is.renaming (all m) line.order (lists_of (all m) line.order listing) x some)) in
-      let rest = renamed_lines-fixed fixed lines (All-tail (λ (line : Entry). IsListing (all m) line.order) line lines on) in
+      let rest =
+      renamed_lines-fixed fixed lines (All-tail (λ (line : Entry). IsListing (all m) line.order) line lines on) in
       λ i. record { weight = line.weight; order = here i } ∷ rest i
 
 pub onto-twice : (m : ℕ) (g f : ℕ → ℕ) → IsOnto m g → IsOnto m f → IsOnto m (λ x. g (f x))
@@ -111,7 +112,8 @@ onto-twice m g f outer inner = record {
   renaming = record {
     positive = λ x inside. outer.renaming.positive (f x) (value_inside m f inner x inside);
     one_to_one = λ x y with_x with_y same. inner.renaming.one_to_one x y with_x with_y
-        (outer.renaming.one_to_one (f x) (f y) (value_inside m f inner x with_x) (value_inside m f inner y with_y) same);
+        (outer.renaming.one_to_one (f x) (f y)
+        (value_inside m f inner x with_x) (value_inside m f inner y with_y) same);
   };
   onto = sym (renamed_set-twice g f (all m)) ∙ ap (renamed_set g) inner.onto ∙ outer.onto;
 }
