@@ -1,5 +1,5 @@
 -- Accounts are true, and the visits of a term are one.
-use Rattle.std.proofs.Common.{◌≡◌, ◌≢◌, ◌⊎◌, inl, inr, ℕ, zero, suc, ◌+◌, ◌<◌, ◌≤◌, Bool, true, false}
+use Rattle.std.proofs.Common.{◌≡◌, ◌≢◌, ◌⊎◌, inl, inr, ℕ, zero, suc, ◌+◌, ◌≤◌, Bool, true, false}
 use Rattle.std.proofs.Common.{true≢false, List, [], ◌∷◌, ◌++◌}
 use Rattle.std.proofs.Common.{option_map, refl, sym, ap, ◌∙◌, subst, arith, append-nil}
 use Rattle.std.specs.FinSet as set
@@ -8,7 +8,6 @@ use Rattle.vir_altset.specs.Sets.{Set, IsBounded, IsPart}
 use Rattle.vir_altset.specs.declared.split.Split.{Split}
 use Rattle.vir_profile.specs.declared.ballot.Entry.{Entry}
 use Rattle.vir_profile.specs.Profiles.{restrict}
-use Rattle.vir_term.specs.declared.leaf.Leaf.{Leaf}
 use Rattle.vir_term.specs.Tree.{Tree, leaf as module_of, rev, seq, par, loop, End, size}
 use Rattle.vir_mean.specs.Compositions.{is_end, IsEnd, joined, merged, revised, loop_of}
 use Rattle.vir_mean.specs.Meaning.{mean}

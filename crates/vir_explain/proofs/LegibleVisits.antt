@@ -1,8 +1,8 @@
 -- The visits of a term are such as a text can be read to tell.
-use Rattle.std.proofs.Common.{◌≡◌, ℕ, zero, suc, ◌+◌, ◌<◌, ◌≤◌, ◌^◌, List, [], ◌∷◌, ◌++◌, length, map, take}
+use Rattle.std.proofs.Common.{◌≡◌, ℕ, zero, suc, ◌<◌, ◌≤◌, ◌^◌, List, [], ◌∷◌, ◌++◌, length, map, take}
 use Rattle.std.proofs.Common.{Option, Some, None}
-use Rattle.std.proofs.Common.{◌-◌, Bool, true, false, cond, length-append, option_map, ℤ, pos, negsuc, slice_get, refl}
-use Rattle.std.proofs.Common.{sym, ap, ◌∙◌, subst, arith}
+use Rattle.std.proofs.Common.{◌-◌, Bool, true, false, cond, length-append, option_map, ℤ, pos, negsuc, refl}
+use Rattle.std.proofs.Common.{sym, subst, arith}
 use Rattle.std.proofs.lemmas.Int.{ints}
 use Rattle.std.proofs.lemmas.List.{take_all}
 use Rattle.std.proofs.lemmas.List.FromFn.{get_or-map-range_with_len, length-map-range_with_len}
@@ -18,16 +18,15 @@ use Rattle.vir_profile.specs.Profiles.{restrict, total_weight}
 use Rattle.vir_term.specs.declared.score.Score.{Score}
 use Rattle.vir_term.specs.Tree.{Tree, size}
 use Rattle.vir_mean.specs.Meaning.{mean}
-use Rattle.vir_mean.specs.Members.{AreMembers}
 use Rattle.vir_mean.specs.Numbers.{score_bound, score_of, AreScores, IsWithin}
 use Rattle.vir_mean.specs.Scores.{score}
 use Rattle.vir_mean.proofs.MeaningLaws.{mean-split}
 use Rattle.vir_mean.proofs.MemberLists.{members_are}
 use Rattle.vir_mean.proofs.ScoreSizes.{all_small}
 use Rattle.vir_mean.proofs.WeightLemmas.{total_weight-restrict}
-use Rattle.vir_simplify.specs.Places.{subterms, subterm_at}
+use Rattle.vir_simplify.specs.Places.{subterms}
 use Rattle.vir_simplify.proofs.Places.{length-subterms}
-use Rattle.vir_explain.specs.Visits.{Scored, Visit, scored, scores_by, score_of_term, visits}
+use Rattle.vir_explain.specs.Visits.{Visit, scored, scores_by, score_of_term, visits}
 use Rattle.vir_explain.specs.Accounts.{IsTrueVisit}
 use Rattle.vir_explain.specs.Legible.{AreLegible, AreShortScores, IsLegible, IsShort, IsShortScore, IsShortWhole}
 use Rattle.vir_explain.proofs.Accounting.{each_of_both}

@@ -1,5 +1,6 @@
 pub mod Meant
 pub mod Told
+pub mod Composed
 pub mod Rounds
 pub mod Listed
 pub mod ToldScores

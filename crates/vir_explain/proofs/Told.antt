@@ -8,7 +8,7 @@ use Rattle.vir_profile.specs.declared.ballot.Entry.{Entry}
 use Rattle.vir_profile.specs.Profiles.{restrict}
 use Rattle.vir_mean.specs.Meaning.{mean}
 use Rattle.vir_term.specs.Tree.{Tree}
-use Rattle.vir_term.specs.Appending.{Appends, Begins}
+use Rattle.vir_term.specs.Appending.{Appends}
 use Rattle.vir_term.proofs.Beginnings.{begins_before}
 use Rattle.vir_explain.specs.Visits.{Visit, score_of_term, scores_by, visit_of, visits}
 use Rattle.vir_explain.specs.VisitTexts.{visit_text, visits_text}
@@ -23,11 +23,6 @@ told_one v = sym (append-nil (visit_text v))
 -- visits, and one more
 pub told_last : (vs : List Visit) (v : Visit) → visits_text vs ++ visit_text v ≡ visits_text (vs ++ v ∷ [])
 told_last vs v = ap (λ xs. visits_text vs ++ xs) (told_one v) ∙ sym (flat_map-append visit_text vs (v ∷ []))
-
--- visits, more visits, and one more
-pub told_both : (us vs : List Visit) (v : Visit) → (visits_text us ++ visits_text vs) ++ visit_text v
-    ≡ visits_text (us ++ vs ++ v ∷ [])
-told_both us vs v = ap (λ xs. xs ++ visit_text v) (sym (flat_map-append visit_text us vs)) ∙ told_last (us ++ vs) v
 
 -- behind what was appended, a call appends more
 pub appends_more : {T E : Type 0} (result : Result T E) (start before after added end whole : List ℕ)

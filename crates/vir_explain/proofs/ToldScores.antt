@@ -1,7 +1,7 @@
 -- Scores that are told of all members of a set.
-use Rattle.std.proofs.Common.{◌≡◌, ◌≢◌, ℕ, zero, suc, ◌+◌, ◌<◌, ◌≤◌, ◌||◌, Bool, true, false, true≢false}
-use Rattle.std.proofs.Common.{cond, not, nat_eq, List, [], ◌∷◌, ◌++◌, Some, None}
-use Rattle.std.proofs.Common.{map, option_map, ℤ, refl, sym, ap, ◌∙◌, subst, arith}
+use Rattle.std.proofs.Common.{◌≡◌, ℕ, zero, suc, ◌≤◌, ◌||◌, Bool, true, false, true≢false}
+use Rattle.std.proofs.Common.{cond, not, nat_eq, List, [], ◌∷◌, ◌++◌}
+use Rattle.std.proofs.Common.{option_map, ℤ, refl, sym, ap, ◌∙◌, arith}
 use Rattle.std.proofs.lemmas.Bool.Decides.{nat_tests}
 use Rattle.std.proofs.lemmas.List.Folds.{list_any-append}
 use Rattle.std.specs.FinSet as set
@@ -19,7 +19,7 @@ use Rattle.vir_mean.specs.Eliminators.{eliminated, is_passed}
 use Rattle.vir_mean.specs.Modules.{leaf_mean}
 use Rattle.vir_mean.specs.Scores.{score, plurality_score}
 use Rattle.vir_mean.proofs.EliminatedSplits.{goes_same, retain_same}
-use Rattle.vir_explain.specs.Visits.{Scored, scored, scores_by, score_in}
+use Rattle.vir_explain.specs.Visits.{scored, scores_by, score_in}
 use Rattle.vir_explain.specs.Accounts.{told_of, told_by, split_by}
 
 -- each member is listed

@@ -1,6 +1,6 @@
 -- Each visit of a term is what it says.
-use Rattle.std.proofs.Common.{◌≡◌, ℕ, zero, suc, ◌+◌, ◌≤◌, Bool, true, false, cond, List, [], ◌∷◌, ◌++◌, Some}
-use Rattle.std.proofs.Common.{slice_get, refl, sym, ap, ◌∙◌, arith}
+use Rattle.std.proofs.Common.{◌≡◌, ℕ, zero, suc, ◌+◌, Bool, true, false, cond, List, [], ◌∷◌, ◌++◌, Some}
+use Rattle.std.proofs.Common.{slice_get, refl, ap, ◌∙◌, arith}
 use Rattle.std.specs.FinSet as set
 use Rattle.std.specs.List.{AllByRecursion}
 use Rattle.vir_altset.specs.Sets.{Set, IsPart}
@@ -9,7 +9,7 @@ use Rattle.vir_profile.specs.Profiles.{restrict}
 use Rattle.vir_term.specs.Tree.{Tree, leaf as module_of, rev, seq, par, loop, End, size}
 use Rattle.vir_mean.specs.Compositions.{is_end}
 use Rattle.vir_mean.specs.Meaning.{mean}
-use Rattle.vir_simplify.specs.Places.{subterms, subterm_at}
+use Rattle.vir_simplify.specs.Places.{subterms}
 use Rattle.vir_simplify.proofs.Places.{in_first, in_second, place_below, subterm-whole}
 use Rattle.vir_explain.specs.Visits.{Visit, left_by, rounds, visit_of, visits}
 use Rattle.vir_explain.specs.Accounts.{AreScored, IsScored, IsTrueVisit}

@@ -14,7 +14,6 @@ use Rattle.vir_profile.specs.Profiles.{restrict}
 use Rattle.vir_term.specs.declared.leaf.Leaf.{Leaf}
 use Rattle.vir_term.specs.declared.leaf.Leaf.TheVariants as leaf
 use Rattle.vir_term.specs.Tree.{Tree, leaf as module_of, rev, seq, par, loop, End, size}
-use Rattle.vir_mean.specs.declared.elimination.Elimination.{Elimination}
 use Rattle.vir_mean.specs.declared.elimination.Elimination.TheVariants.{Max, Min, Below, Upto}
 use Rattle.vir_mean.specs.Compositions.{IsEnd, joined, merged, revised}
 use Rattle.vir_mean.specs.Eliminators.{eliminated, goes, is_passed}

@@ -1,5 +1,5 @@
 -- The text of how many voters put one alternative before another, for each ordered pair, and of the Condorcet winner.
-use Rattle.std.specs.Prelude.{◌≡◌, ℕ, zero, suc, List, [], ◌∷◌, ◌++◌, codes, decimal, map, Some, None}
+use Rattle.std.specs.Prelude.{ℕ, zero, suc, List, [], ◌∷◌, ◌++◌, codes, decimal, map, Some, None}
 use Rattle.std.specs.Prelude.{MatchOption, Bool, if◌then◌else◌}
 use Rattle.std.specs.List.{flat_map}
 use Rattle.std.specs.declared.option.Option.{Option}

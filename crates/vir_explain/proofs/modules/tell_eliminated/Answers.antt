@@ -1,4 +1,4 @@
-use Rattle.std.proofs.Common.{◌≡◌, ◌<◌, ◌^◌, ◌∙◌, ◌++◌, List, ap, subst, sym, take, arith, Some}
+use Rattle.std.proofs.Common.{◌≡◌, ◌<◌, ◌^◌, ◌∙◌, ◌++◌, List, ap, subst, take, arith, Some}
 use Rattle.vir_altset.specs.Members.{members}
 use Rattle.vir_mean.specs.Eliminators.{eliminated}
 use Rattle.vir_mean.specs.Numbers.{AreScores, score_of}

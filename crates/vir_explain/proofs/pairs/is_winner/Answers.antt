@@ -1,4 +1,4 @@
-use Rattle.std.proofs.Common.{◌≡◌, ◌≢◌, ◌<◌, ◌+◌, true≢false, refl, sym, ◌∙◌, arith}
+use Rattle.std.proofs.Common.{◌≢◌, ◌<◌, ◌+◌, true≢false, refl, sym, ◌∙◌, arith}
 use Rattle.vir_profile.specs.Profiles.{pairwise_weight}
 use Rattle.vir_explain.proofs.Listed.{member_of_all, bounds_of_member, each_next}
 use Rattle.vir_explain.proofs.pairs.is_winner.Goals as goal

@@ -1,26 +1,25 @@
-use Rattle.std.proofs.Common.{◌≡◌, ◌≢◌, ◌+◌, ◌-◌, ◌<◌, ◌≤◌, suc, true, false, true≢false, List, ◌∷◌, [], ◌++◌}
-use Rattle.std.proofs.Common.{ap, sym, refl, subst, ◌∙◌, arith, rules, ℕ, IfOk}
-use Rattle.std.proofs.lemmas.Grind.{common_steps, flat_map-append}
+use Rattle.std.proofs.Common.{◌≡◌, ◌≢◌, ◌+◌, ◌-◌, suc, false, true≢false, ◌++◌}
+use Rattle.std.proofs.Common.{ap, sym, refl, subst, ◌∙◌, arith, rules, IfOk}
 use Rattle.std.proofs.lemmas.Result.{err_from_is_err_and}
 use Rattle.std.specs.FinSet as set
 use Rattle.vir_altset.specs.Sets.{all, IsPart}
 use Rattle.vir_altset.specs.declared.split.Split.{Split}
-use Rattle.vir_profile.specs.declared.ballot.Entry.{Entry}
 use Rattle.vir_profile.specs.Profiles.{restrict}
 use Rattle.vir_term.specs.Tree.{tree, size, exactly, at_most, rev, seq, par, loop}
 use Rattle.vir_term.proofs.Beginnings.{begins_after, begins_itself}
-use Rattle.vir_mean.specs.Compositions.{IsEnd, is_end, joined, loop_of, merged, revised}
+use Rattle.vir_mean.specs.Compositions.{IsEnd, is_end, joined, loop_of}
 use Rattle.vir_mean.specs.Meaning.{mean}
 use Rattle.vir_mean.proofs.LoopLaws.{joined-all_deferred, loop_of-few, loop_of-none, loop_of-whole}
 use Rattle.vir_mean.proofs.LoopLaws.{len-deferred, joined-turn}
 use Rattle.vir_mean.proofs.MeaningLaws.{mean-split}
 use Rattle.vir_explain.specs.Endings.{end_of}
-use Rattle.vir_explain.specs.Visits.{left_by, rounds, score_of_term, visit_of, visits}
-use Rattle.vir_explain.specs.VisitTexts.{visit_text, visits_text}
-use Rattle.vir_explain.proofs.Meant.{all_left, at_end, before_end, left_part, left_within, seq_meant}
+use Rattle.vir_explain.specs.Visits.{left_by, rounds, visits}
+use Rattle.vir_explain.specs.VisitTexts.{visits_text}
+use Rattle.vir_explain.proofs.Meant.{all_left, at_end, before_end, left_part, left_within}
 use Rattle.vir_explain.proofs.Meant.{some_left, undecided_joined}
+use Rattle.vir_explain.proofs.Composed.{appends_whole, loop_parts, par_parts, parts_of, rev_parts, seq_parts}
+use Rattle.vir_explain.proofs.Composed.{too_long_whole}
 use Rattle.vir_explain.proofs.Rounds.{told-end, told-more, told-none, told-whole, too_long-round}
-use Rattle.vir_explain.proofs.Told.{appended_both, appends_more, told_composition, too_long_more}
 use Rattle.vir_explain.proofs.visiting.+visits.Goals as goal
 
 -- ---- rounds
@@ -148,201 +147,86 @@ visit_rounds-returns-clause-text t c =
 
 -- ---- terms
 
-pub visit-returns-in_ok-one-in-Rev-clause-text : goal.visit-returns-in_ok-one-in-Rev-clause-text
-visit-returns-in_ok-one-in-Rev-clause-text t c =
-    let n = c.args.place in
-    let a = c.args.domain.now in
-    let p = c.args.election.now.profile.lines in
+pub visit-returns-in_ok-one-in-Rev : goal.visit-returns-in_ok-one-in-Rev
+visit-returns-in_ok-one-in-Rev t c =
     let part = tree c.deref.result.now in
     let is : tree c.args.term.now ≡ rev part = search rules in
-    let us = visits (n + 1) part p a in
-    let told : c.revise.result ≡ mean (tree c.args.term.now) a (restrict a p) = c.revise.ensures ∙ ap (revised a)
-    c.in_ok-one-in-Rev.ensures.split ∙ ap (λ u. mean u a (restrict a p)) (sym is) in
-    appends_more c.visit_composition.result _ _ _ (visits_text us) _ _ c.in_ok-one-in-Rev.ensures.text
-    c.visit_composition.ensures.text
-    (told_composition n (tree c.args.term.now) p a us _ (subst (λ u. visits n u p a ≡ us ++ visit_of n u a p ∷ [])
-    (sym is) refl) (ap score_of_term is) told)
+    let parts = parts_of _ _ c.args.place _ _ c.args.election.now.profile.lines c.args.domain.now _ is
+    (rev_parts c.args.text.now.items _ c.args.place part c.args.election.now.profile.lines c.args.domain.now _ _
+    c.in_ok-one-in-Rev.ensures.split c.in_ok-one-in-Rev.ensures.text c.revise.ensures) in
+    let done = c.visit_composition.ensures in
+    record {
+      split = subst (λ s. IfOk c.visit_composition.result (λ given. given ≡ s)) parts.split done.split;
+      text = appends_whole _ _ _ _ _ _ _ _ _ parts done.text;
+      short = done.short;
+      long = too_long_whole _ _ _ _ _ _ _ _ parts done.long;
+    }
 
-pub visit-returns-in_ok-other-in-Seq-clause-text : goal.visit-returns-in_ok-other-in-Seq-clause-text
-visit-returns-in_ok-other-in-Seq-clause-text t c =
-    let n = c.args.place in
-    let a = c.args.domain.now in
-    let p = c.args.election.now.profile.lines in
+pub visit-returns-in_ok-other-in-Seq : goal.visit-returns-in_ok-other-in-Seq
+visit-returns-in_ok-other-in-Seq t c =
     let first = tree c.deref-in-Seq.result.now in
     let second = tree c.deref-in-Seq-3.result.now in
-    let one : c.in_ok-one-in-Seq.one ≡ mean first a (restrict a p) = c.in_ok-one-in-Seq.ensures.split in
-    let left : c.in_ok-one-in-Seq.one.deferred ≡ left_by first p a = ap (λ (s : Split). s.deferred) one in
-    let size_is : c.size.result ≡ size first = search rules in
-    let behind : c.args.place + 1 + c.size.result ≡ n + 1 + size first = ap (λ m. n + 1 + m) size_is in
     let is : tree c.args.term.now ≡ seq first second = search rules in
-    let us = visits (n + 1) first p a ++ visits (n + 1 + size first) second p (left_by first p a) in
-    let told : c.join_in_sequence.result ≡ mean (tree c.args.term.now) a (restrict a p) = c.join_in_sequence.ensures ∙
-    seq_meant first second p a _ _ one c.in_ok-other-in-Seq.ensures.split ∙ ap (λ u. mean u a (restrict a p))
-    (sym is) in
-    appends_more c.visit_composition-in-Seq.result _ _ _ (visits_text us) _ _
-    ((appended_both _ _ _ (visits_text (visits (n + 1) first p a)) (visits_text
-    (visits (n + 1 + size first) second p
-    (left_by first p a))) c.in_ok-one-in-Seq.ensures.text (c.in_ok-other-in-Seq.ensures.text ∙ ap
-    (λ m. c.visit-in-Seq.new.text.items ++ visits_text
-    (visits m second p c.in_ok-one-in-Seq.one.deferred)) behind ∙ ap (λ d. c.visit-in-Seq.new.text.items
-    ++ visits_text (visits (n + 1 + size first) second p d)) left)) ∙ ap (λ xs. c.args.text.now.items ++ xs)
-    (sym (flat_map-append visit_text (visits (n + 1) first p a)
-    (visits (n + 1 + size first) second p (left_by first p a))))) c.visit_composition-in-Seq.ensures.text
-    (told_composition n (tree c.args.term.now) p a us _ (subst (λ u. visits n u p a ≡ us ++ visit_of n u a p ∷ [])
-    (sym is) refl) (ap score_of_term is) told)
-
-pub visit-returns-in_ok-other-in-Seq-clause-long : goal.visit-returns-in_ok-other-in-Seq-clause-long
-visit-returns-in_ok-other-in-Seq-clause-long t c =
-    let n = c.args.place in
-    let a = c.args.domain.now in
-    let p = c.args.election.now.profile.lines in
-    let first = tree c.deref-in-Seq.result.now in
-    let second = tree c.deref-in-Seq-3.result.now in
-    let one : c.in_ok-one-in-Seq.one ≡ mean first a (restrict a p) = c.in_ok-one-in-Seq.ensures.split in
-    let left : c.in_ok-one-in-Seq.one.deferred ≡ left_by first p a = ap (λ (s : Split). s.deferred) one in
     let size_is : c.size.result ≡ size first = search rules in
-    let behind : c.args.place + 1 + c.size.result ≡ n + 1 + size first = ap (λ m. n + 1 + m) size_is in
-    let is : tree c.args.term.now ≡ seq first second = search rules in
-    let us = visits (n + 1) first p a ++ visits (n + 1 + size first) second p (left_by first p a) in
-    let told : c.join_in_sequence.result ≡ mean (tree c.args.term.now) a (restrict a p) = c.join_in_sequence.ensures ∙
-    seq_meant first second p a _ _ one c.in_ok-other-in-Seq.ensures.split ∙ ap (λ u. mean u a (restrict a p))
-    (sym is) in
-    too_long_more c.visit_composition-in-Seq.result _ _ (visits_text us) _ _
-    ((appended_both _ _ _ (visits_text (visits (n + 1) first p a)) (visits_text
-    (visits (n + 1 + size first) second p
-    (left_by first p a))) c.in_ok-one-in-Seq.ensures.text (c.in_ok-other-in-Seq.ensures.text ∙ ap
-    (λ m. c.visit-in-Seq.new.text.items ++ visits_text
-    (visits m second p c.in_ok-one-in-Seq.one.deferred)) behind ∙ ap (λ d. c.visit-in-Seq.new.text.items
-    ++ visits_text (visits (n + 1 + size first) second p d)) left)) ∙ ap (λ xs. c.args.text.now.items ++ xs)
-    (sym (flat_map-append visit_text (visits (n + 1) first p a)
-    (visits (n + 1 + size first) second p (left_by first p a))))) (told_composition n (tree c.args.term.now) p a us _
-    (subst (λ u. visits n u p a ≡ us ++ visit_of n u a p ∷ [])
-    (sym is) refl) (ap score_of_term is) told) c.visit_composition-in-Seq.ensures.long
+    let parts = parts_of _ _ c.args.place _ _ c.args.election.now.profile.lines c.args.domain.now _ is
+    (seq_parts c.args.text.now.items _ _ c.args.place _ first second c.args.election.now.profile.lines
+    c.args.domain.now _ _ _ c.in_ok-one-in-Seq.ensures.split c.in_ok-other-in-Seq.ensures.split
+    c.in_ok-one-in-Seq.ensures.text c.in_ok-other-in-Seq.ensures.text size_is c.join_in_sequence.ensures) in
+    let done = c.visit_composition-in-Seq.ensures in
+    record {
+      split = subst (λ s. IfOk c.visit_composition-in-Seq.result (λ given. given ≡ s)) parts.split done.split;
+      text = appends_whole _ _ _ _ _ _ _ _ _ parts done.text;
+      short = done.short;
+      long = too_long_whole _ _ _ _ _ _ _ _ parts done.long;
+    }
 
-pub visit-returns-in_ok-other-in-Par-clause-text : goal.visit-returns-in_ok-other-in-Par-clause-text
-visit-returns-in_ok-other-in-Par-clause-text t c =
-    let n = c.args.place in
-    let a = c.args.domain.now in
-    let p = c.args.election.now.profile.lines in
+pub visit-returns-in_ok-other-in-Par : goal.visit-returns-in_ok-other-in-Par
+visit-returns-in_ok-other-in-Par t c =
     let first = tree c.deref-in-Par.result.now in
     let second = tree c.deref-in-Par-3.result.now in
-    let size_is : c.size-in-Par.result ≡ size first = search rules in
-    let behind : c.args.place + 1 + c.size-in-Par.result ≡ n + 1 + size first = ap (λ m. n + 1 + m) size_is in
     let is : tree c.args.term.now ≡ par first second = search rules in
-    let us = visits (n + 1) first p a ++ visits (n + 1 + size first) second p (a) in
-    let told : c.join_in_parallel.result ≡ mean (tree c.args.term.now) a (restrict a p) = c.join_in_parallel.ensures ∙
-    ap (λ s. merged s c.in_ok-other-in-Par.other) c.in_ok-one-in-Par.ensures.split ∙ ap
-    (merged (mean first a (restrict a p))) c.in_ok-other-in-Par.ensures.split ∙ ap
-    (λ u. mean u a (restrict a p)) (sym is) in
-    appends_more c.visit_composition-in-Par.result _ _ _ (visits_text us) _ _
-    ((appended_both _ _ _ (visits_text (visits (n + 1) first p a)) (visits_text
-    (visits (n + 1 + size first) second p a))
-    c.in_ok-one-in-Par.ensures.text (c.in_ok-other-in-Par.ensures.text ∙ ap (λ m. c.visit-in-Par.new.text.items
-    ++ visits_text (visits m second p a)) behind)) ∙ ap (λ xs. c.args.text.now.items ++ xs)
-    (sym (flat_map-append visit_text (visits (n + 1) first p a)
-    (visits (n + 1 + size first) second p (a))))) c.visit_composition-in-Par.ensures.text
-    (told_composition n (tree c.args.term.now) p a us _ (subst (λ u. visits n u p a ≡ us ++ visit_of n u a p ∷ [])
-    (sym is) refl) (ap score_of_term is) told)
-
-pub visit-returns-in_ok-other-in-Par-clause-long : goal.visit-returns-in_ok-other-in-Par-clause-long
-visit-returns-in_ok-other-in-Par-clause-long t c =
-    let n = c.args.place in
-    let a = c.args.domain.now in
-    let p = c.args.election.now.profile.lines in
-    let first = tree c.deref-in-Par.result.now in
-    let second = tree c.deref-in-Par-3.result.now in
     let size_is : c.size-in-Par.result ≡ size first = search rules in
-    let behind : c.args.place + 1 + c.size-in-Par.result ≡ n + 1 + size first = ap (λ m. n + 1 + m) size_is in
-    let is : tree c.args.term.now ≡ par first second = search rules in
-    let us = visits (n + 1) first p a ++ visits (n + 1 + size first) second p (a) in
-    let told : c.join_in_parallel.result ≡ mean (tree c.args.term.now) a (restrict a p) = c.join_in_parallel.ensures ∙
-    ap (λ s. merged s c.in_ok-other-in-Par.other) c.in_ok-one-in-Par.ensures.split ∙ ap
-    (merged (mean first a (restrict a p))) c.in_ok-other-in-Par.ensures.split ∙ ap
-    (λ u. mean u a (restrict a p)) (sym is) in
-    too_long_more c.visit_composition-in-Par.result _ _ (visits_text us) _ _
-    ((appended_both _ _ _ (visits_text (visits (n + 1) first p a)) (visits_text
-    (visits (n + 1 + size first) second p a))
-    c.in_ok-one-in-Par.ensures.text (c.in_ok-other-in-Par.ensures.text ∙ ap (λ m. c.visit-in-Par.new.text.items
-    ++ visits_text (visits m second p a)) behind)) ∙ ap (λ xs. c.args.text.now.items ++ xs)
-    (sym (flat_map-append visit_text (visits (n + 1) first p a)
-    (visits (n + 1 + size first) second p (a))))) (told_composition n (tree c.args.term.now) p a us _
-    (subst (λ u. visits n u p a ≡ us ++ visit_of n u a p ∷ [])
-    (sym is) refl) (ap score_of_term is) told) c.visit_composition-in-Par.ensures.long
+    let parts = parts_of _ _ c.args.place _ _ c.args.election.now.profile.lines c.args.domain.now _ is
+    (par_parts c.args.text.now.items _ _ c.args.place _ first second c.args.election.now.profile.lines
+    c.args.domain.now _ _ _ c.in_ok-one-in-Par.ensures.split c.in_ok-other-in-Par.ensures.split
+    c.in_ok-one-in-Par.ensures.text c.in_ok-other-in-Par.ensures.text size_is c.join_in_parallel.ensures) in
+    let done = c.visit_composition-in-Par.ensures in
+    record {
+      split = subst (λ s. IfOk c.visit_composition-in-Par.result (λ given. given ≡ s)) parts.split done.split;
+      text = appends_whole _ _ _ _ _ _ _ _ _ parts done.text;
+      short = done.short;
+      long = too_long_whole _ _ _ _ _ _ _ _ parts done.long;
+    }
 
-pub visit-returns-in_ok-split-in-Loop-clause-text : goal.visit-returns-in_ok-split-in-Loop-clause-text
-visit-returns-in_ok-split-in-Loop-clause-text t c =
-    let n = c.args.place in
-    let a = c.args.domain.now in
-    let p = c.args.election.now.profile.lines in
+pub visit-returns-in_ok-split-in-Loop : goal.visit-returns-in_ok-split-in-Loop
+visit-returns-in_ok-split-in-Loop t c =
     let body = tree c.deref-in-Loop.result.now in
-    let k = exactly c.in-Loop.k in
-    let is : tree c.args.term.now ≡ loop k body = search rules in
-    let us = rounds (suc (set.len a)) k (left_by body p) (visits (n + 1) body p) a in
-    let told : c.in_ok-split-in-Loop.split ≡ mean (tree c.args.term.now) a (restrict a p) =
-    c.in_ok-split-in-Loop.ensures.split ∙ ap (λ u. mean u a (restrict a p)) (sym is) in
-    appends_more c.visit_composition-in-Loop.result _ _ _ (visits_text us) _ _ c.in_ok-split-in-Loop.ensures.text
-    c.visit_composition-in-Loop.ensures.text
-    (told_composition n (tree c.args.term.now) p a us _ (subst (λ u. visits n u p a ≡ us ++ visit_of n u a p ∷ [])
-    (sym is) refl) (ap score_of_term is) told)
+    let is : tree c.args.term.now ≡ loop (exactly c.in-Loop.k) body = search rules in
+    let parts = parts_of _ _ c.args.place _ _ c.args.election.now.profile.lines c.args.domain.now _ is
+    (loop_parts c.args.text.now.items _ c.args.place (exactly c.in-Loop.k) body c.args.election.now.profile.lines
+    c.args.domain.now _ c.in_ok-split-in-Loop.ensures.text c.in_ok-split-in-Loop.ensures.split) in
+    let done = c.visit_composition-in-Loop.ensures in
+    record {
+      split = subst (λ s. IfOk c.visit_composition-in-Loop.result (λ given. given ≡ s)) parts.split done.split;
+      text = appends_whole _ _ _ _ _ _ _ _ _ parts done.text;
+      short = done.short;
+      long = too_long_whole _ _ _ _ _ _ _ _ parts done.long;
+    }
 
-pub visit-returns-in_ok-split-in-Loop-clause-long : goal.visit-returns-in_ok-split-in-Loop-clause-long
-visit-returns-in_ok-split-in-Loop-clause-long t c =
-    let n = c.args.place in
-    let a = c.args.domain.now in
-    let p = c.args.election.now.profile.lines in
-    let body = tree c.deref-in-Loop.result.now in
-    let k = exactly c.in-Loop.k in
-    let is : tree c.args.term.now ≡ loop k body = search rules in
-    let us = rounds (suc (set.len a)) k (left_by body p) (visits (n + 1) body p) a in
-    let told : c.in_ok-split-in-Loop.split ≡ mean (tree c.args.term.now) a (restrict a p) =
-    c.in_ok-split-in-Loop.ensures.split ∙ ap (λ u. mean u a (restrict a p)) (sym is) in
-    too_long_more c.visit_composition-in-Loop.result _ _ (visits_text us) _ _ c.in_ok-split-in-Loop.ensures.text
-    (told_composition n (tree c.args.term.now) p a us _ (subst (λ u. visits n u p a ≡ us ++ visit_of n u a p ∷ [])
-    (sym is) refl) (ap score_of_term is) told) c.visit_composition-in-Loop.ensures.long
-
-pub visit-returns-in_ok-split-in-Until-clause-text : goal.visit-returns-in_ok-split-in-Until-clause-text
-visit-returns-in_ok-split-in-Until-clause-text t c =
-    let n = c.args.place in
-    let a = c.args.domain.now in
-    let p = c.args.election.now.profile.lines in
+pub visit-returns-in_ok-split-in-Until : goal.visit-returns-in_ok-split-in-Until
+visit-returns-in_ok-split-in-Until t c =
     let body = tree c.deref-in-Until.result.now in
-    let k = at_most c.in-Until.k in
-    let is : tree c.args.term.now ≡ loop k body = search rules in
-    let us = rounds (suc (set.len a)) k (left_by body p) (visits (n + 1) body p) a in
-    let told : c.in_ok-split-in-Until.split ≡ mean (tree c.args.term.now) a (restrict a p) =
-    c.in_ok-split-in-Until.ensures.split ∙ ap (λ u. mean u a (restrict a p)) (sym is) in
-    appends_more c.visit_composition-in-Until.result _ _ _ (visits_text us) _ _ c.in_ok-split-in-Until.ensures.text
-    c.visit_composition-in-Until.ensures.text
-    (told_composition n (tree c.args.term.now) p a us _ (subst (λ u. visits n u p a ≡ us ++ visit_of n u a p ∷ [])
-    (sym is) refl) (ap score_of_term is) told)
-
-pub visit-returns-in_ok-split-in-Until-clause-long : goal.visit-returns-in_ok-split-in-Until-clause-long
-visit-returns-in_ok-split-in-Until-clause-long t c =
-    let n = c.args.place in
-    let a = c.args.domain.now in
-    let p = c.args.election.now.profile.lines in
-    let body = tree c.deref-in-Until.result.now in
-    let k = at_most c.in-Until.k in
-    let is : tree c.args.term.now ≡ loop k body = search rules in
-    let us = rounds (suc (set.len a)) k (left_by body p) (visits (n + 1) body p) a in
-    let told : c.in_ok-split-in-Until.split ≡ mean (tree c.args.term.now) a (restrict a p) =
-    c.in_ok-split-in-Until.ensures.split ∙ ap (λ u. mean u a (restrict a p)) (sym is) in
-    too_long_more c.visit_composition-in-Until.result _ _ (visits_text us) _ _ c.in_ok-split-in-Until.ensures.text
-    (told_composition n (tree c.args.term.now) p a us _ (subst (λ u. visits n u p a ≡ us ++ visit_of n u a p ∷ [])
-    (sym is) refl) (ap score_of_term is) told) c.visit_composition-in-Until.ensures.long
-
-pub visit-returns-in_ok-other-in-Seq-clause-split : goal.visit-returns-in_ok-other-in-Seq-clause-split
-visit-returns-in_ok-other-in-Seq-clause-split t c =
-    let a = c.args.domain.now in
-    let p = c.args.election.now.profile.lines in
-    let first = tree c.deref-in-Seq.result.now in
-    let second = tree c.deref-in-Seq-3.result.now in
-    let is : tree c.args.term.now ≡ seq first second = search rules in
-    let told : c.join_in_sequence.result ≡ mean (tree c.args.term.now) a (restrict a p) =
-    c.join_in_sequence.ensures ∙ seq_meant first second p a _ _ c.in_ok-one-in-Seq.ensures.split
-    c.in_ok-other-in-Seq.ensures.split ∙ ap (λ u. mean u a (restrict a p)) (sym is) in
-    subst (λ s. IfOk c.visit_composition-in-Seq.result (λ given. given ≡ s)) told
-    c.visit_composition-in-Seq.ensures.split
+    let is : tree c.args.term.now ≡ loop (at_most c.in-Until.k) body = search rules in
+    let parts = parts_of _ _ c.args.place _ _ c.args.election.now.profile.lines c.args.domain.now _ is
+    (loop_parts c.args.text.now.items _ c.args.place (at_most c.in-Until.k) body c.args.election.now.profile.lines
+    c.args.domain.now _ c.in_ok-split-in-Until.ensures.text c.in_ok-split-in-Until.ensures.split) in
+    let done = c.visit_composition-in-Until.ensures in
+    record {
+      split = subst (λ s. IfOk c.visit_composition-in-Until.result (λ given. given ≡ s)) parts.split done.split;
+      text = appends_whole _ _ _ _ _ _ _ _ _ parts done.text;
+      short = done.short;
+      long = too_long_whole _ _ _ _ _ _ _ _ parts done.long;
+    }
 
 pub visit-visit-requires-in-Seq-2 : goal.visit-visit-requires-in-Seq-2
 visit-visit-requires-in-Seq-2 t c =
