@@ -2,8 +2,8 @@
 # Checks the scripts of examples/many: a manifest that is cut, counted part by part and joined gives to the byte what
 # one call prints, also where a part failed first, and by GNU parallel where that is here. Torn and hostile answers are
 # told to be none. Calls are killed at moments by chance, so many times as the first word says, of which the second is
-# the seed: what is joined then is whole, or the parts that lack an answer are named. It prints what is wrong, and a line
-# at the end; its status is 0 where nothing is.
+# the seed: what is joined then is whole, or the parts that lack an answer are named. It prints what is wrong, and a
+# line at the end; its status is 0 where nothing is.
 #   checks/many.sh [ROUNDS [SEED]]
 set -u
 rounds=${1-12}
