@@ -54,8 +54,8 @@ typedef struct virage_told {
  * Does what the words ask for with these files, and answers the status (enum virage_status).
  *
  * The caller owes this, and nothing else:
- * - No pointer is null, also where there are no bytes or no sizes. (The data() of an empty std::vector may be null: hand
- *   in the address of any byte then, with the length 0. It isn't read.)
+ * - No pointer is null, also where there are no bytes or no sizes. (The data() of an empty std::vector may be null:
+ *   hand in the address of any byte then, with the length 0. It isn't read.)
  * - Behind each pointer there are at least as many sizes or bytes as the number that follows it says. What is handed
  *   in isn't written to during the call, and the buffers and `told` may be written.
  * - `out`, `err` and `told` overlap neither each other nor what is handed in.

@@ -166,14 +166,15 @@ try_little_memory() {
   if [ "$whole" -eq 0 ] || [ "$wanting" -eq 0 ]; then wrong "the bounds show nothing"; fi
 }
 
-# Prints the fields of the record $1 of vir_c, or the parameters of the call, one a line without their types' marks.
+# Prints the fields of the record $1 of vir_c, one a line.
 exported() {
   sed -n "/^pub struct $1 {/,/^}/s/^    pub \\([a-z_]*\\): usize,\$/\\1/p" "$top/crates/vir_c/src/sizes.rt"
 }
 
 # The header beside the export: types, layout and parameters by the compiler, names by the sources, and the version.
 try_header() {
-  local said version=$(<"$top/VERSION")
+  local said version
+  version=$(<"$top/VERSION")
   said=$(cc -std=c11 -Wall -Wextra -Werror -fsyntax-only -I "$built/include" "$top/c/tests/layout.c" 2>&1) ||
     wrong "the header isn't that of the call: $said"
   if [ "$(exported FileSizes | xargs)" != "name content" ] || [ "$(exported Told | xargs)" != "out err" ]; then

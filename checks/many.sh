@@ -2,8 +2,8 @@
 # Checks the scripts of examples/many: a manifest that is cut, counted part by part and joined gives to the byte what
 # one call prints, also where a part failed first, and by GNU parallel where that is here. Torn and hostile answers are
 # told to be none. Calls are killed at moments by chance, so many times as the first word says, of which the second is
-# the seed: what is joined then is whole, or the parts that lack an answer are named. It prints what is wrong, and a line
-# at the end; its status is 0 where nothing is.
+# the seed: what is joined then is whole, or the parts that lack an answer are named. It prints what is wrong, and a
+# line at the end; its status is 0 where nothing is.
 #   checks/many.sh [ROUNDS [SEED]]
 set -u
 rounds=${1-12}
@@ -153,6 +153,46 @@ check_odd_names() {
   if [ -e ran ]; then wrong "the name of a folder is run"; fi
 }
 
+# Waits until the file $1 is there.
+await() {
+  local left=1500
+  until [ -e "$1" ] || [ $((left--)) -eq 0 ]; do sleep 0.02; done
+}
+
+# A second call on a part begins while the first has written half of its answer; the first then ends, and publishes it.
+check_doubled() {
+  local first second
+  cat >slow <<'END'
+#!/usr/bin/env bash
+# Answers as "$REAL" does: the first line once the file $TURN.front is there, and the others once $TURN.rest is.
+"$REAL" "$@" >"$TURN.said"
+: >"$TURN.begun"
+until [ -e "$TURN.front" ]; do sleep 0.02; done
+head -n 1 "$TURN.said"
+: >"$TURN.half"
+until [ -e "$TURN.rest" ]; do sleep 0.02; done
+tail -n +2 "$TURN.said"
+END
+  chmod +x slow
+  "$many/cut" names 60 doubled >/dev/null
+  : >one.front
+  REAL=$virage TURN=one VIRAGE=./slow "$many/part" "$rule" doubled/part.00000 &
+  first=$!
+  await one.half
+  REAL=$virage TURN=two VIRAGE=./slow "$many/part" "$rule" doubled/part.00000 &
+  second=$!
+  await two.begun
+  : >one.rest
+  wait "$first" || wrong "the first of two calls on a part fails"
+  check_joined doubled
+  : >two.front
+  await two.half
+  check_joined doubled
+  : >two.rest
+  wait "$second" || wrong "the second of two calls on a part fails"
+  check_joined doubled
+}
+
 # Ends the process $1, or its group, by this signal after so many milliseconds.
 kill_after() {
   sleep "$(printf '0.%03d' "$3")"
@@ -251,6 +291,7 @@ check_long_names
 check_table
 check_torn
 check_odd_names
+check_doubled
 check_killed 60
 skipped=
 if command -v parallel >/dev/null && parallel --version 2>/dev/null | grep -q '^GNU parallel'; then

@@ -11,6 +11,9 @@ _Static_assert(sizeof(size_t) == 8 && sizeof(void *) == 8, "a length and an addr
 
 /* `FileSizes` and `Told` of vir_c: two lengths each, in this order, with nothing between or behind */
 _Static_assert(sizeof(virage_file_sizes) == 16 && _Alignof(virage_file_sizes) == 8, "the sizes of a file");
+#define IS_LENGTH(record, field) _Generic(((record *)0)->field, size_t: 1, default: 0)
+_Static_assert(IS_LENGTH(virage_file_sizes, name) && IS_LENGTH(virage_file_sizes, content), "lengths");
+_Static_assert(IS_LENGTH(virage_told, out) && IS_LENGTH(virage_told, err), "lengths");
 _Static_assert(offsetof(virage_file_sizes, name) == 0, "the size of a name");
 _Static_assert(offsetof(virage_file_sizes, content) == 8, "the size of a content");
 _Static_assert(sizeof(virage_told) == 16 && _Alignof(virage_told) == 8, "what is told");
