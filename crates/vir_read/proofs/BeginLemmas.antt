@@ -19,13 +19,13 @@ use Rattle.vir_read.proofs.TreeLemmas.{front_symbol, symbol_at, symbol_at-front,
 -- ---- numbers in brackets
 
 pub brackets_closed : (text : List ℕ) (list : List Token) (at : ℕ) → symbol_at text list at ≡ Some CloseBracket
-    → in_brackets text (drop at list) ≡ Ok (none, drop (at + 1) list)
+    → in_brackets text (drop at list) ≡ Ok ([], drop (at + 1) list)
 brackets_closed text list at e =
-    closed (drop at list) (sym (symbol_at-front text list at) ∙ e) ∙ ap (λ tokens. Ok (none, tokens))
+    closed (drop at list) (sym (symbol_at-front text list at) ∙ e) ∙ ap (λ tokens. Ok ([], tokens))
     (drop-drop 1 at list)
   where
     closed : (tokens : List Token) → front_symbol text tokens ≡ Some CloseBracket → in_brackets text tokens
-        ≡ Ok (none, drop 1 tokens)
+        ≡ Ok ([], drop 1 tokens)
     closed [] e = absurd (none-some CloseBracket e)
     closed (t ∷ rest) e = ap (bracket_then text t rest) (same_Some (symbol text t) CloseBracket e)
 
@@ -53,7 +53,7 @@ brackets_open text list at h = open_at (drop at list) (λ x. h (symbol_at-front 
 
 -- ---- words
 
-word_alone_then : (text : List ℕ) (inside : Option Reads) (t s : Token) (rest : List Token) (seen : Symbol)
+pub word_alone_then : (text : List ℕ) (inside : Option Reads) (t s : Token) (rest : List Token) (seen : Symbol)
     → ¬ (Some seen ≡ Some OpenParenthesis) →
     word_then text inside t s rest seen ≡ Ok (word t.start t.end none, s ∷ rest)
 word_alone_then text inside t s rest Word h = refl
@@ -137,8 +137,3 @@ tree_wrong text inside t rest CloseBracket h k l = refl
 tree_wrong text inside t rest Comma h k l = refl
 tree_wrong text inside t rest Semicolon h k l = refl
 tree_wrong text inside t rest Equals h k l = refl
-
--- an error stays the same in what is made of a value
-pub Fails-bind : {A B : Type 0} (e : TextError) (r : OrFault A) (f : A → OrFault B) → Fails e r → Fails e (r >>= f)
-Fails-bind Memory r f h = tt
-Fails-bind (Fault x) r f h = ap (λ r. r >>= f) h

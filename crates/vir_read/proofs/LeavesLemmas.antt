@@ -10,7 +10,7 @@ use Rattle.vir_read.specs.declared.tree_reader.Separator.{Separator}
 use Rattle.vir_read.specs.declared.tree_reader.Separator.TheVariants as separator
 use Rattle.vir_read.specs.Faults.{◌>>=◌}
 use Rattle.vir_read.specs.Symbols.{symbol, is_same}
-use Rattle.vir_read.specs.RawTrees.{RawTree, RawTrees}
+use Rattle.vir_read.specs.RawTrees.{RawTree}
 use Rattle.vir_read.specs.Grammar.{Read, Reads, unexpected, symbol_of, opened, separator_of, goes_on, members}
 use Rattle.vir_read.specs.Grammar.{numeral_of, bracket_then, in_brackets, word_then, behind_word, tree_at, tree_with}
 use Rattle.vir_read.specs.Grammar.{tree_within}
@@ -33,7 +33,7 @@ pub then_leaves : {A B : Type 0} (n m : ℕ) (r : Read A) (f : A × List Token �
 then_leaves n m (Ok x) f h k = k x h
 then_leaves n m (Err e) f h k = tt
 
-unexpected-leaves : (text : List ℕ) (n : ℕ) (tokens : List Token) → Leaves {A = RawTrees} n (unexpected text tokens)
+unexpected-leaves : (text : List ℕ) (n : ℕ) (tokens : List Token) → Leaves {A = List RawTree} n (unexpected text tokens)
 unexpected-leaves text n [] = tt
 unexpected-leaves text n (t ∷ rest) = tt
 
@@ -79,7 +79,7 @@ separator_of-leaves text close [] = tt
 separator_of-leaves text close (t ∷ rest) = separator-leaves (is_same Comma (symbol text t))
     (is_same close (symbol text t)) text t rest
 
-goes_on-leaves : (first : RawTree) (further : List Token → Read RawTrees) (rest : List Token) (s : Separator)
+goes_on-leaves : (first : RawTree) (further : List Token → Read (List RawTree)) (rest : List Token) (s : Separator)
     → Leaves (length rest) (further rest)
     → Leaves (length rest) (goes_on first further rest s)
 goes_on-leaves first further rest separator.Comma h = then_leaves (length rest) (length rest) (further rest) _ h
@@ -90,7 +90,7 @@ members-leaves : (text : List ℕ) (close : Symbol) (tree : Reads) → Shortens 
     → Leaves (length tokens) (members text close tree most tokens)
 members-leaves text close tree h zero tokens = unexpected-leaves text (length tokens) tokens
 members-leaves text close tree h (suc most) tokens =
-    let further : List Token → Read RawTrees = members text close tree most in
+    let further : List Token → Read (List RawTree) = members text close tree most in
     next_leaves (length tokens) (tree tokens)
     (λ first. separator_of text close first.1 >>= λ s. goes_on first.0 further s.1 s.0)
     (h tokens)

@@ -1,6 +1,7 @@
 -- Tokens that say a term's pieces are read as a tree that spells it.
 use Rattle.std.proofs.Common.{◌≡◌, ℕ, zero, suc, ◌+◌, ◌≤◌, List, [], ◌∷◌, ◌++◌, length, Option, Some, None, Ok, max}
 use Rattle.std.proofs.Common.{slice_get, refl, sym, ◌∙◌, ap, subst, arith, append_assoc, length-append}
+use Rattle.std.proofs.lemmas.Option.{same_Some}
 use Rattle.std.specs.Prelude.{codes}
 use Rattle.vir_term.specs.declared.score.Score.{Score}
 use Rattle.vir_term.specs.declared.leaf.Leaf.{Leaf}
@@ -14,12 +15,13 @@ use Rattle.vir_read.specs.declared.symbol.Symbol.TheVariants.{Word, Number, Open
 use Rattle.vir_read.specs.declared.symbol.Symbol.TheVariants.{OpenBracket, CloseBracket, Comma, Semicolon, Equals}
 use Rattle.vir_read.specs.Faults.{◌>>=◌}
 use Rattle.vir_read.specs.Symbols.{symbol, kind_symbol, byte_symbol}
-use Rattle.vir_read.specs.RawTrees.{RawTree, RawTrees, word, number, bracket, none, more}
+use Rattle.vir_read.specs.RawTrees.{RawTree, RawTrees, word, number, bracket, none, more, gathered}
 use Rattle.vir_read.specs.Grammar.{Reads, members, numeral_of, bracket_then, word_then, behind_word, tree_within}
 use Rattle.vir_read.specs.Spelling.{IsWord, IsNumber, AreNumbers, IsBracket, IsOf, IsOfTwo, SpellsOrdered, SpellsLeaf}
 use Rattle.vir_read.specs.Spelling.{Spells}
 use Rattle.vir_read.specs.Pieces.{Piece, name, digits, sign, Says, SayAll, pieces_of, pieces_of_two, more_pieces}
 use Rattle.vir_read.specs.Pieces.{ordered_pieces, leaf_pieces, term_pieces, OpensNothing}
+use Rattle.vir_read.proofs.BeginLemmas.{word_alone_then}
 
 -- ---- lists of tokens
 
@@ -86,23 +88,13 @@ module _ (text : List ℕ) where
   behind_word-alone : (inside : Option Reads) (t : Token) (rest : List Token) → OpensNothing text rest →
       behind_word text inside t rest ≡ Ok (word t.start t.end none, rest)
   behind_word-alone inside t [] h = refl
-  behind_word-alone inside t (s ∷ rest) h = closed (symbol text s) h where
-    closed : (y : Symbol) → (y ≡ OpenParenthesis → ⊥) → word_then text inside t s rest y
-        ≡ Ok (word t.start t.end none, s ∷ rest)
-    closed Word h = refl
-    closed Number h = refl
-    closed OpenParenthesis h = absurd (h refl)
-    closed CloseParenthesis h = refl
-    closed OpenBracket h = refl
-    closed CloseBracket h = refl
-    closed Comma h = refl
-    closed Semicolon h = refl
-    closed Equals h = refl
+  behind_word-alone inside t (s ∷ rest) h =
+      word_alone_then text inside t s rest (symbol text s) (λ e. h (same_Some (symbol text s) OpenParenthesis e))
 
   -- one tree before a closing parenthesis
   parts-one : (tree : Reads) (most : ℕ) (tokens rest : List Token) (close : Token) (first : RawTree) → 1 ≤ most →
       tree tokens ≡ Ok (first, close ∷ rest) → symbol text close ≡ CloseParenthesis → members text CloseParenthesis tree
-      most tokens ≡ Ok (more first none, rest)
+      most tokens ≡ Ok (first ∷ [], rest)
   parts-one tree zero tokens rest close first some read closes = absurd (omega arith)
   parts-one tree (suc most) tokens rest close first some read closes = rw (read, closes) refl
 
@@ -111,16 +103,16 @@ module _ (text : List ℕ) where
       (first second : RawTree) → 2 ≤ most →
       tree tokens ≡ Ok (first, comma ∷ further) → symbol text comma ≡ Comma → tree further ≡ Ok (second, close ∷ rest)
       → symbol text close ≡ CloseParenthesis →
-      members text CloseParenthesis tree most tokens ≡ Ok (more first (more second none), rest)
+      members text CloseParenthesis tree most tokens ≡ Ok (first ∷ second ∷ [], rest)
   parts-two tree zero tokens further rest comma close first second some read goes_on read' closes = absurd (omega arith)
   parts-two tree (suc most) tokens further rest comma close first second some read goes_on read' closes =
       rw (read, goes_on, parts-one tree most further rest close second (omega arith) read' closes) refl
 
   -- a word with parts
-  within-word : (room : ℕ) (x p : Token) (inner rest : List Token) (found : RawTrees) → symbol text x ≡ Word
+  within-word : (room : ℕ) (x p : Token) (inner rest : List Token) (found : List RawTree) → symbol text x ≡ Word
       → symbol text p ≡ OpenParenthesis →
       members text CloseParenthesis (tree_within text room) (length inner) inner ≡ Ok (found, rest) →
-      tree_within text (suc room) (x ∷ p ∷ inner) ≡ Ok (word x.start x.end found, rest)
+      tree_within text (suc room) (x ∷ p ∷ inner) ≡ Ok (word x.start x.end (gathered found), rest)
   unfolding tree_within
   within-word room x p inner rest found a b read = rw (a, b, read) refl
 
@@ -187,7 +179,7 @@ module _ (text : List ℕ) where
         word x.0.start x.0.end (more first.0 none),
         (first.0, word_said w (more first.0 none) x.0 x.3, first.1),
         ap (tree_within text (suc room)) same
-            ∙ within-word room x.0 p.0 inner rest (more first.0 none) (symbol-word w x.0 x.3) (symbol-sign 40 p.0 p.3)
+            ∙ within-word room x.0 p.0 inner rest (first.0 ∷ []) (symbol-word w x.0 x.3) (symbol-sign 40 p.0 p.3)
             (parts-one (tree_within text room) (length inner) inner rest q.0 first.0 some first.2
             (symbol-sign 41 q.0 q.2)),
       )
@@ -219,7 +211,7 @@ module _ (text : List ℕ) where
         word x.0.start x.0.end (more first.0 (more second.0 none)),
         (first.0, second.0, word_said w (more first.0 (more second.0 none)) x.0 x.3, first.1, second.1),
         ap (tree_within text (suc room)) same
-            ∙ within-word room x.0 p.0 inner rest (more first.0 (more second.0 none)) (symbol-word w x.0 x.3)
+            ∙ within-word room x.0 p.0 inner rest (first.0 ∷ second.0 ∷ []) (symbol-word w x.0 x.3)
             (symbol-sign 40 p.0 p.3)
             (parts-two (tree_within text room) (length inner) inner further rest c.0 q.0 first.0 second.0 some
             first.2 (symbol-sign 44 c.0 c.3) second.2 (symbol-sign 41 q.0 q.2)),
@@ -228,14 +220,14 @@ module _ (text : List ℕ) where
   -- numbers up to the closing bracket
   members-numbers : (x : ℕ) (order : List ℕ) (most : ℕ) (tokens : List Token)
       → SayAll text (digits x ∷ (more_pieces order ++ sign 93 ∷ [])) tokens → (rest : List Token) →
-      length tokens ≤ most → (found : RawTrees) × AreNumbers text (x ∷ order) found
+      length tokens ≤ most → (found : List RawTree) × AreNumbers text (x ∷ order) (gathered found)
       × (members text CloseBracket (numeral_of text) most (tokens ++ rest) ≡ Ok (found, rest))
   members-numbers x order zero [] says rest h = absurd says
   members-numbers x order zero (t ∷ tokens) says rest h = absurd (omega arith)
   members-numbers x [] (suc most) tokens says rest h =
       let t = said_first text (digits x) (sign 93 ∷ []) tokens says in
       let q = said_last text (sign 93) t.1 t.4 in (
-        more (number t.0.start t.0.end) none,
+        number t.0.start t.0.end ∷ [],
         (number_said x t.0 t.3, tt),
         ap (λ ts. members text CloseBracket (numeral_of text) (suc most) (ts ++ rest)) (t.2 ∙ ap (λ ts. t.0 ∷ ts) q.1)
             ∙ rw (symbol-number x t.0 t.3, symbol-sign 93 q.0 q.2) refl,
@@ -245,21 +237,21 @@ module _ (text : List ℕ) where
       let c = said_first text (sign 44) (digits y ∷ (more_pieces order ++ sign 93 ∷ [])) t.1 t.4 in
       let n : length tokens ≡ suc (suc (length c.1)) = ap length (t.2 ∙ ap (λ ts. t.0 ∷ ts) c.2) in
       let others = members-numbers y order most c.1 c.4 rest (omega (arith, n)) in (
-        more (number t.0.start t.0.end) others.0,
+        number t.0.start t.0.end ∷ others.0,
         (number_said x t.0 t.3, others.1),
         ap (λ ts. members text CloseBracket (numeral_of text) (suc most) (ts ++ rest)) (t.2 ∙ ap (λ ts. t.0 ∷ ts) c.2)
             ∙ rw (symbol-number x t.0 t.3, symbol-sign 44 c.0 c.3, others.2) refl,
       )
 
   -- an opening bracket, and numbers
-  within-bracket : (room : ℕ) (b t : Token) (inner rest : List Token) (found : RawTrees) → symbol text b ≡ OpenBracket
+  within-bracket : (room : ℕ) (b t : Token) (inner rest : List Token) (found : List RawTree) → symbol text b ≡ OpenBracket
       → symbol text t ≡ Number →
       members text CloseBracket (numeral_of text) (length (t ∷ inner)) (t ∷ inner) ≡ Ok (found, rest) →
-      tree_within text (suc room) (b ∷ t ∷ inner) ≡ Ok (bracket b.start found, rest)
+      tree_within text (suc room) (b ∷ t ∷ inner) ≡ Ok (bracket b.start (gathered found), rest)
   unfolding tree_within
   within-bracket room b t inner rest found a e read =
-      rw a (ap (λ y. bracket_then text t inner y >>= λ found. Ok (bracket b.start found.0, found.1)) e
-      ∙ ap (λ r. r >>= λ (found : RawTrees × List Token). Ok (bracket b.start found.0, found.1)) read)
+      rw a (ap (λ y. bracket_then text t inner y >>= λ found. Ok (bracket b.start (gathered found.0), found.1)) e
+      ∙ ap (λ r. r >>= λ (found : List RawTree × List Token). Ok (bracket b.start (gathered found.0), found.1)) read)
 
   readable-bracket : (x : ℕ) (order : List ℕ) (need : ℕ) →
       Readable (need + 1) (sign 91 ∷ digits x ∷ (more_pieces order ++ sign 93 ∷ [])) (IsBracket text (x ∷ order))
@@ -270,8 +262,8 @@ module _ (text : List ℕ) where
       let t = said_first text (digits x) ps b.1 b.4 in
       let n : length b.1 ≡ suc (length t.1) = ap length t.2 in
       let all = members-numbers x order (length (b.1 ++ rest)) b.1 b.4 rest (omega (arith, length-append b.1 rest)) in (
-        bracket b.0.start all.0,
-        bracket_said (x ∷ order) b.0 all.0 all.1,
+        bracket b.0.start (gathered all.0),
+        bracket_said (x ∷ order) b.0 (gathered all.0) all.1,
         ap (λ ts. tree_within text (suc room) (ts ++ rest)) (b.2 ∙ ap (λ ts. b.0 ∷ ts) t.2)
             ∙ within-bracket room b.0 t.0 (t.1 ++ rest) rest all.0 (symbol-sign 91 b.0 b.3) (symbol-number x t.0 t.3)
             (sym (ap (λ ts. members text CloseBracket (numeral_of text) (length (ts ++ rest)) (ts ++ rest)) t.2)

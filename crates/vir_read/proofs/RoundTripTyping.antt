@@ -154,34 +154,20 @@ module _ (text : List ℕ) (names : Names) where
       typed-word raw (codes "rev") (more w.0 none) level w.1
       ∙ rw (level_is_low level (omega arith), typed-spelled part w.0 (level + 1) w.2 r (omega arith)) refl
   typed-spelled (seq first second) raw level w r h =
+      let one = typed-spelled first w.0 (level + 1) w.3 r.0 (omega arith) in
+      let other = typed-spelled second w.1 (level + 1) w.4 r.1 (omega arith) in
       typed-word raw (codes "seq") (more w.0 (more w.1 none)) level w.2
-      ∙ rw (
-        level_is_low level (omega arith),
-        typed-spelled first w.0 (level + 1) w.3 r.0 (omega arith),
-        typed-spelled
-            second w.1 (level + 1) w.4 r.1 (omega arith),
-      ) refl
+      ∙ rw (level_is_low level (omega arith), one, other) refl
   typed-spelled (par first second) raw level w r h =
+      let one = typed-spelled first w.0 (level + 1) w.3 r.0 (omega arith) in
+      let other = typed-spelled second w.1 (level + 1) w.4 r.1 (omega arith) in
       typed-word raw (codes "par") (more w.0 (more w.1 none)) level w.2
-      ∙ rw (
-        level_is_low level (omega arith),
-        typed-spelled first w.0 (level + 1) w.3 r.0 (omega arith),
-        typed-spelled
-            second w.1 (level + 1) w.4 r.1 (omega arith),
-      ) refl
+      ∙ rw (level_is_low level (omega arith), one, other) refl
   typed-spelled (loop (exactly k) body) raw level w r h =
+      let inner = typed-spelled body w.1 (level + 1) w.4 r.1 (omega arith) in
       typed-word raw (codes "loop") (more w.0 (more w.1 none)) level w.2
-      ∙ rw (
-        level_is_low level (omega arith),
-        count_of-number w.0 k w.3 r.0,
-        typed-spelled body w.1 (level + 1) w.4 r.1
-            (omega arith),
-      ) refl
+      ∙ rw (level_is_low level (omega arith), count_of-number w.0 k w.3 r.0, inner) refl
   typed-spelled (loop (at_most k) body) raw level w r h =
+      let inner = typed-spelled body w.1 (level + 1) w.4 r.1 (omega arith) in
       typed-word raw (codes "until") (more w.0 (more w.1 none)) level w.2
-      ∙ rw (
-        level_is_low level (omega arith),
-        count_of-number w.0 k w.3 r.0,
-        typed-spelled body w.1 (level + 1) w.4 r.1
-            (omega arith),
-      ) refl
+      ∙ rw (level_is_low level (omega arith), count_of-number w.0 k w.3 r.0, inner) refl

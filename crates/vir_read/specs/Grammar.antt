@@ -14,7 +14,7 @@ use Rattle.vir_read.specs.declared.tree_reader.Members.{Members}
 use Rattle.vir_read.specs.declared.tree_reader.Members.TheVariants.{Trees, Numbers}
 use Rattle.vir_read.specs.Faults.{OrFault, ◌>>=◌, fault}
 use Rattle.vir_read.specs.Symbols.{symbol, is_same}
-use Rattle.vir_read.specs.RawTrees.{RawTree, RawTrees, word, number, bracket, none, more}
+use Rattle.vir_read.specs.RawTrees.{RawTree, word, number, bracket, none, gathered}
 
 -- a value and the tokens behind it, or the first fault
 abbrev pub Read : Type 0 → Type 0
@@ -43,25 +43,25 @@ abbrev pub opened : ℕ → Option Reads → (Reads → Read RawTree) → Read R
 opened at None inside = Err (fault TooDeep at)
 opened at (Some tree) inside = inside tree
 
--- ---- lists of trees
+-- ---- lists
 
--- what stands behind a tree of a list: a comma, or the sign that closes the list
+-- what stands behind a value of a list: a comma, or the sign that closes the list
 abbrev pub separator_of : List ℕ → Symbol → List Token → Read Separator
 separator_of text close [] = unexpected text []
 separator_of text close (t ∷ rest) =
     if is_same Comma (symbol text t) then Ok (separator.Comma, rest)
     else (if is_same close (symbol text t) then Ok (separator.Close, rest) else unexpected text (t ∷ rest))
 
--- behind a comma stand further trees
-abbrev pub goes_on : RawTree → (List Token → Read RawTrees) → List Token → Separator → Read RawTrees
-goes_on first further rest separator.Comma = further rest >>= λ others. Ok (more first others.0, others.1)
-goes_on first further rest separator.Close = Ok (more first none, rest)
+-- behind a comma stand further values
+abbrev pub goes_on : {A : Type 0} → A → (List Token → Read (List A)) → List Token → Separator → Read (List A)
+goes_on first further rest separator.Comma = further rest >>= λ others. Ok (first ∷ others.0, others.1)
+goes_on first further rest separator.Close = Ok (first ∷ [], rest)
 
--- trees that are read so, at most so many, up to the sign that closes the list
-abbrev pub members : List ℕ → Symbol → Reads → ℕ → List Token → Read RawTrees
-members text close tree zero tokens = unexpected text tokens
-members text close tree (suc most) tokens =
-    tree tokens >>= λ first. separator_of text close first.1 >>= λ s. goes_on first.0 (members text close tree most) s.1
+-- values that are read so, at most so many, up to the sign that closes the list
+abbrev pub members : {A : Type 0} → List ℕ → Symbol → (List Token → Read A) → ℕ → List Token → Read (List A)
+members text close read zero tokens = unexpected text tokens
+members text close read (suc most) tokens =
+    read tokens >>= λ first. separator_of text close first.1 >>= λ s. goes_on first.0 (members text close read most) s.1
     s.0
 
 -- ---- numbers in brackets
@@ -70,12 +70,12 @@ members text close tree (suc most) tokens =
 abbrev pub numeral_of : List ℕ → Reads
 numeral_of text tokens = symbol_of text Number tokens >>= λ t. Ok (number t.0.start t.0.end, t.1)
 
-abbrev pub bracket_then : List ℕ → Token → List Token → Symbol → Read RawTrees
-bracket_then text t rest CloseBracket = Ok (none, rest)
+abbrev pub bracket_then : List ℕ → Token → List Token → Symbol → Read (List RawTree)
+bracket_then text t rest CloseBracket = Ok ([], rest)
 bracket_then text t rest _ = members text CloseBracket (numeral_of text) (length (t ∷ rest)) (t ∷ rest)
 
 -- behind the opening bracket stands the closing one, or numbers
-abbrev pub in_brackets : List ℕ → List Token → Read RawTrees
+abbrev pub in_brackets : List ℕ → List Token → Read (List RawTree)
 in_brackets text [] = unexpected text []
 in_brackets text (t ∷ rest) = bracket_then text t rest (symbol text t)
 
@@ -83,7 +83,7 @@ in_brackets text (t ∷ rest) = bracket_then text t rest (symbol text t)
 
 abbrev pub word_then : List ℕ → Option Reads → Token → Token → List Token → Symbol → Read RawTree
 word_then text inside t s rest OpenParenthesis = opened s.start inside (λ tree. members text CloseParenthesis tree
-    (length rest) rest >>= λ found. Ok (word t.start t.end found.0, found.1))
+    (length rest) rest >>= λ found. Ok (word t.start t.end (gathered found.0), found.1))
 word_then text inside t s rest _ = Ok (word t.start t.end none, s ∷ rest)
 
 -- a word may have trees in parentheses behind it
@@ -95,7 +95,7 @@ abbrev pub tree_at : List ℕ → Option Reads → Token → List Token → Symb
 tree_at text inside t rest Word = behind_word text inside t rest
 tree_at text inside t rest Number = Ok (number t.start t.end, rest)
 tree_at text inside t rest OpenBracket = opened t.start inside (λ _. in_brackets text rest >>= λ found.
-    Ok (bracket t.start found.0, found.1))
+    Ok (bracket t.start (gathered found.0), found.1))
 tree_at text inside t rest _ = unexpected text (t ∷ rest)
 
 -- a tree, where what stands inside of a sign is read so, if one more sign may be left unclosed

@@ -1,13 +1,11 @@
 // What is kept of a term while a text is judged. A term past the limit is not built.
-ghost use Rattle.std.specs.Prelude.{◌≡◌, ◌∷◌, [], length, MatchOption, Ok};
+ghost use Rattle.std.specs.Prelude.{◌≡◌, Ok};
 ghost use Rattle.vir_term.specs.Tree.{Tree, leaf, rev, loop};
-ghost use Rattle.vir_read.specs.RawTrees.{raw_tree, listed};
 ghost use Rattle.vir_read.specs.Typing.{pair_tree, end_of};
 ghost use Rattle.vir_read.specs.SharedTerms.{tree};
 ghost use Rattle.vir_read.specs.Built.{IsKeptOf, Builds};
 
 use crate::built_in::{LoopEnd, Pair};
-use crate::raw::{Raw, RawList};
 use crate::shared_term::SharedTerm;
 use crate::text_fault::TextError;
 use std::alloc::Global;
@@ -131,36 +129,4 @@ pub fn build_pair(
         },
         Err(_) => Err(TextError::Memory),
     }
-}
-
-// The one tree of a list, where it is one.
-#[tactic(auto, using(crate::proofs::TypingLemmas::one_of, crate::proofs::TypingLemmas::not_gone))]
-pub fn one(parts: &RawList) -> Option<&Raw>
-    ensures { MatchOption result (length (listed parts.now) ≡ 1 → ⊥) (λ raw. listed parts.now ≡ raw_tree raw.now ∷ []) }
-{
-    if parts.len() != 1 {
-        return None;
-    }
-    let Some(raw) = parts.at(0) else {
-        return None;
-    };
-    Some(raw)
-}
-
-// The two trees of a list, where these are two.
-#[tactic(auto, using(crate::proofs::TypingLemmas::two_of, crate::proofs::TypingLemmas::not_gone))]
-pub fn two(parts: &RawList) -> Option<(&Raw, &Raw)>
-    ensures { MatchOption result (length (listed parts.now) ≡ 2 → ⊥) (λ raws. listed parts.now ≡ raw_tree raws.0.now
-        ∷ raw_tree raws.1.now ∷ []) }
-{
-    if parts.len() != 2 {
-        return None;
-    }
-    let Some(first) = parts.at(0) else {
-        return None;
-    };
-    let Some(second) = parts.at(1) else {
-        return None;
-    };
-    Some((first, second))
 }

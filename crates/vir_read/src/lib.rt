@@ -38,5 +38,5 @@ pub use symbol::Symbol;
 pub use text_fault::{TextError, TextFault, TextKind};
 pub use token::{Token, TokenKind};
 pub use token_reader::tokens;
-pub use tree_reader::{RawEnd, UNCLOSED_LIMIT, read_raw};
+pub use tree_reader::{RawEnd, Separator, UNCLOSED_LIMIT, read_raw, read_separator};
 pub use typing::{share_term_at, type_term, type_term_at};

@@ -1,5 +1,5 @@
 // The trees of a text, before it is known what they stand for.
-ghost use Rattle.std.specs.Prelude.{◌≡◌, ◌==◌, length, slice_get, [], ◌∷◌, ◌++◌, OnOk, OnErr, option_map};
+ghost use Rattle.std.specs.Prelude.{◌≡◌, ◌==◌, length, slice_get, [], ◌∷◌, ◌++◌, MatchOption, OnOk, OnErr, option_map};
 ghost use Rattle.vir_read.specs.RawTrees.{raw_tree, listed};
 
 use std::alloc::{AllocError, Global};
@@ -83,5 +83,38 @@ impl RawList {
         ensures { option_map (λ raw. raw_tree raw.now) result ≡ slice_get (listed self.now) i }
     {
         self.trees.get(i)
+    }
+
+    /// The one tree, where it is one.
+    #[tactic(auto, using(crate::proofs::TypingLemmas::one_of, crate::proofs::TypingLemmas::not_gone))]
+    pub fn one(&self) -> Option<&Raw>
+        ensures { MatchOption result (length (listed self.now) ≡ 1 → ⊥)
+            (λ raw. listed self.now ≡ raw_tree raw.now ∷ []) }
+    {
+        if self.len() != 1 {
+            return None;
+        }
+        let Some(raw) = self.at(0) else {
+            return None;
+        };
+        Some(raw)
+    }
+
+    /// The two trees, where these are two.
+    #[tactic(auto, using(crate::proofs::TypingLemmas::two_of, crate::proofs::TypingLemmas::not_gone))]
+    pub fn two(&self) -> Option<(&Raw, &Raw)>
+        ensures { MatchOption result (length (listed self.now) ≡ 2 → ⊥) (λ raws. listed self.now ≡ raw_tree raws.0.now
+            ∷ raw_tree raws.1.now ∷ []) }
+    {
+        if self.len() != 2 {
+            return None;
+        }
+        let Some(first) = self.at(0) else {
+            return None;
+        };
+        let Some(second) = self.at(1) else {
+            return None;
+        };
+        Some((first, second))
     }
 }

@@ -5,7 +5,7 @@ ghost use Rattle.vir_read.specs.declared.symbol.Symbol.TheVariants.{OpenBracket}
 ghost use Rattle.vir_read.specs.declared.text_fault.TextKind.TheVariants.{TooDeep};
 ghost use Rattle.vir_read.specs.Faults.{Gives, fault};
 ghost use Rattle.vir_read.specs.Symbols.{symbol};
-ghost use Rattle.vir_read.specs.RawTrees.{gathered, listed, raw_tree};
+ghost use Rattle.vir_read.specs.RawTrees.{listed, raw_tree};
 ghost use Rattle.vir_read.specs.Grammar.{behind_word, in_brackets, inside, tree_at, tree_of, tree_within};
 ghost use Rattle.vir_read.specs.Grammar.{close_of, member_of, members, numeral_of, separator_of};
 
@@ -52,9 +52,9 @@ impl Members {
     }
 }
 
-// What stands behind a member of a list.
+/// What stands behind a member of a list.
 #[derive(Clone, Copy)]
-enum Separator {
+pub enum Separator {
     Comma,
     Close,
 }
@@ -78,8 +78,8 @@ fn too_deep(sign: Token) -> TextError
     TextError::fault(TextKind::TooDeep, sign.start as usize)
 }
 
-// What stands behind a member of a list that this sign closes, at an index.
-fn read_separator(
+/// What stands behind a member of a list that this sign closes, at an index.
+pub fn read_separator(
     text: &[u8],
     list: &[Token],
     at: usize,
@@ -144,7 +144,7 @@ fn read_members(
     kind: Members,
 ) -> Result<ListEnd, TextError>
     requires { from ≤ length list.now }
-    ensures members { Gives (λ end. (gathered (listed end.trees), drop end.next list.now)) result
+    ensures members { Gives (λ end. (listed end.trees, drop end.next list.now)) result
         (members text.now (close_of kind) (member_of text.now kind) (length (drop from list.now))
         (drop from list.now)) }
     ensures forward { IfOk result (λ end. (from < end.next) × (end.next ≤ length list.now)) }
@@ -230,7 +230,7 @@ fn read_brackets(
     from: usize,
 ) -> Result<ListEnd, TextError>
     requires { from ≤ length list.now }
-    ensures members { Gives (λ end. (gathered (listed end.trees), drop end.next list.now)) result
+    ensures members { Gives (λ end. (listed end.trees, drop end.next list.now)) result
         (in_brackets text.now (drop from list.now)) }
     ensures forward { IfOk result (λ end. (from < end.next) × (end.next ≤ length list.now)) }
 {

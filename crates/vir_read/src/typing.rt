@@ -13,7 +13,7 @@ ghost use Rattle.vir_read.specs.Typing.{word_term, term_at, term_of, first_place
 ghost use Rattle.vir_read.specs.Built.{Builds};
 
 use crate::arguments::{count_of, order_of, score_argument, span};
-use crate::built::{Built, build_leaf, build_loop, build_pair, build_rev, one, two};
+use crate::built::{Built, build_leaf, build_loop, build_pair, build_rev};
 use crate::built_in::{BuiltIn, Eliminator, LoopEnd, Ordered, Pair, Plain, built_in_named};
 use crate::names::{Names, SharedNames};
 use crate::raw::{Raw, RawList};
@@ -111,7 +111,7 @@ fn build_composition<M: SharedNames>(
     ensures { (at : ℕ) → Builds result (composition_of context.now.text.now (M.meaning context.now.names.now) at level
         word (arguments_of context.now.text.now (M.meaning context.now.names.now) (gathered (listed parts.now)))) }
 {
-    match (word, one(parts), two(parts)) {
+    match (word, parts.one(), parts.two()) {
         (BuiltIn::Plain(plain), ..) => build_leaf(context.alloc, plain_leaf(plain)),
         (BuiltIn::Ordered(ordered), Some(k), _) => {
             let k = count_of(context.text, k)?;

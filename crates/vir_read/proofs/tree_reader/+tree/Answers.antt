@@ -5,13 +5,13 @@ use Rattle.vir_read.specs.Faults.{Gives, Fails, ◌>>=◌}
 use Rattle.vir_read.specs.RawTrees.{word, gathered, listed, raw_tree}
 use Rattle.vir_read.specs.Grammar.{separator_of, close_of, member_of, members, tree_at, unexpected, inside}
 use Rattle.vir_read.specs.Grammar.{word_then}
-use Rattle.vir_read.proofs.ListedLemmas.{with_trees}
+use Rattle.vir_read.proofs.ListedLemmas.{with_front}
 use Rattle.vir_read.proofs.RawLemmas.{raw_tree-number, raw_tree-word}
 use Rattle.vir_read.proofs.TreeLemmas.{no_token}
 use Rattle.vir_read.proofs.MemberLemmas.{closes, continues, member_fails, separator_fails}
-use Rattle.vir_read.proofs.TypingLemmas.{fails_as, fails_fault}
+use Rattle.vir_read.proofs.TypingLemmas.{fails_as, fails_fault, fails_on}
 use Rattle.vir_read.proofs.BeginLemmas.{brackets_closed, brackets_open, word_alone, word_opens, inside-no_room}
-use Rattle.vir_read.proofs.BeginLemmas.{inside-room, tree_within-here, tree_within-end, tree_wrong, Fails-bind}
+use Rattle.vir_read.proofs.BeginLemmas.{inside-room, tree_within-here, tree_within-end, tree_wrong}
 use Rattle.vir_read.proofs.tree_reader.+tree.Goals as goal
 
 pub read_members-returns-in-Err-clause-members : goal.read_members-returns-in-Err-clause-members
@@ -41,7 +41,7 @@ read_members-returns-in-Ok-Close-clause-members t c =
     (raw_tree c.in-Ok.member.raw) rest c.in-Ok.ensures.tree left
     (sym (ap (λ s. separator_of c.args.text.now s rest) c.close.ensures)
     ∙ (rw c.in-Ok-Close.field-0-is at c.in-Ok-Close.ensures.exact))
-    ∙ ap (λ trees. Ok (gathered trees, left)) (sym (c.shrink.ensures ∙ c.in_ok-push.ensures.pushed))
+    ∙ ap (λ trees. Ok (trees, left)) (sym (c.shrink.ensures ∙ c.in_ok-push.ensures.pushed))
 
 pub read_members-loop-preserved : goal.read_members-loop-preserved
 read_members-loop-preserved t c =
@@ -54,7 +54,7 @@ read_members-loop-preserved t c =
     let l = c.loop.invariant.forward in
     record {
       whole =
-          ap (λ trees. with_trees trees (members text close tree (length list - (c.loop.counter + 1))
+          ap (λ trees. with_front trees (members text close tree (length list - (c.loop.counter + 1))
           (drop (c.in-Ok.member.next + 1) list))) c.in_ok-push.ensures.pushed
           ∙ continues text close tree list _ (listed c.loop.trees) c.loop.counter c.loop.at c.loop-test.true
           c.loop.invariant.whole (raw_tree c.in-Ok.member.raw)
@@ -143,7 +143,7 @@ read_word-returns-in-Ok-clause-tree t c =
     let room : 0 < c.args.room = (let n = c.if-room-eq0.false in omega arith) in
     opens ∙ ap (λ i. word_then c.args.text.now i c.args.word (get_or c.args.list.now c.args.from no_token)
     (drop (c.args.from + 1) c.args.list.now) OpenParenthesis) (inside-room c.args.text.now c.args.room room)
-    ∙ ap (λ r. r >>= λ found. Ok (word c.args.word.start c.args.word.end found.0, found.1)) c.in-Ok.ensures.members
+    ∙ ap (λ r. r >>= λ found. Ok (word c.args.word.start c.args.word.end (gathered found.0), found.1)) c.in-Ok.ensures.members
     ∙ ap (λ t. Ok (t, drop c.in-Ok.field-0.next c.args.list.now))
     (sym (raw_tree-word c.args.word.start c.args.word.end c.in-Ok.field-0.trees))
 
@@ -155,16 +155,16 @@ read_word-returns-in-Err-clause-tree t c =
     subst (Fails c.in-Err.e)
     (sym (opens ∙ ap (λ i. word_then c.args.text.now i c.args.word (get_or c.args.list.now c.args.from no_token)
     (drop (c.args.from + 1) c.args.list.now) OpenParenthesis) (inside-room c.args.text.now c.args.room room)))
-    (Fails-bind c.in-Err.e _ (λ found. Ok (word c.args.word.start c.args.word.end found.0, found.1))
+    (fails_on c.in-Err.e _ (λ found. Ok (word c.args.word.start c.args.word.end (gathered found.0), found.1))
     c.in-Err.ensures.members)
 
 pub read_brackets-returns-then-is_symbol-clause-members : goal.read_brackets-returns-then-is_symbol-clause-members
 read_brackets-returns-then-is_symbol-clause-members t c =
     brackets_closed c.args.text.now c.args.list.now c.args.from c.if-is_symbol.ensures.symbol
-    ∙ ap (λ trees. Ok (gathered trees, drop (c.args.from + 1) c.args.list.now)) (sym c.new.ensures)
+    ∙ ap (λ trees. Ok (trees, drop (c.args.from + 1) c.args.list.now)) (sym c.new.ensures)
 
 pub read_brackets-returns-else-is_symbol-clause-members : goal.read_brackets-returns-else-is_symbol-clause-members
 read_brackets-returns-else-is_symbol-clause-members t c =
-    subst (Gives (λ end. (gathered (listed end.trees), drop end.next c.args.list.now)) c.read_members.result)
+    subst (Gives (λ end. (listed end.trees, drop end.next c.args.list.now)) c.read_members.result)
     (sym (brackets_open c.args.text.now c.args.list.now c.args.from c.if-is_symbol.ensures.symbol))
     c.read_members.ensures.members

@@ -3,7 +3,7 @@ use Rattle.vir_read.specs.declared.tree_reader.Members.{Members}
 use Rattle.vir_read.specs.declared.tree_reader.Members.TheVariants.{Trees, Numbers}
 use Rattle.vir_read.specs.RawTrees.{listed}
 use Rattle.vir_read.specs.Grammar.{close_of, member_of, members}
-use Rattle.vir_read.proofs.ListedLemmas.{with_trees}
+use Rattle.vir_read.proofs.ListedLemmas.{with_front}
 use Rattle.vir_read.proofs.tree_reader.+tree.Given as goal
 
 -- how far a member may still go down
@@ -31,7 +31,7 @@ decreases-read_brackets l = 2
 
 abbrev pub invariant-read_members-loop : goal.invariant-read_members-loop
 invariant-read_members-loop l = record {
-  whole : with_trees (listed l.trees) (members l.text (close_of l.fn.kind) (member_of l.text l.fn.kind)
+  whole : with_front (listed l.trees) (members l.text (close_of l.fn.kind) (member_of l.text l.fn.kind)
       (length l.list - l.counter) (drop l.at l.list))
       ≡ members l.text (close_of l.fn.kind) (member_of l.text l.fn.kind) (length (drop l.fn.from l.list))
       (drop l.fn.from l.list);
