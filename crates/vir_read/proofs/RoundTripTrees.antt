@@ -244,8 +244,8 @@ module _ (text : List ℕ) where
       )
 
   -- an opening bracket, and numbers
-  within-bracket : (room : ℕ) (b t : Token) (inner rest : List Token) (found : List RawTree) → symbol text b ≡ OpenBracket
-      → symbol text t ≡ Number →
+  within-bracket : (room : ℕ) (b t : Token) (inner rest : List Token) (found : List RawTree)
+      → symbol text b ≡ OpenBracket → symbol text t ≡ Number →
       members text CloseBracket (numeral_of text) (length (t ∷ inner)) (t ∷ inner) ≡ Ok (found, rest) →
       tree_within text (suc room) (b ∷ t ∷ inner) ≡ Ok (bracket b.start (gathered found), rest)
   unfolding tree_within

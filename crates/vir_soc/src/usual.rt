@@ -1,8 +1,8 @@
 // Lines of votes in their usual shape, which are read in one pass over the bytes that they begin. A line feed stands
 // somewhere in these bytes, and each function here stops at it at the latest. So no function asks whether there is a
 // further byte.
-ghost use Rattle.std.specs.Prelude.{◌≡◌, ◌≤◌, ◌<◌, ◌^◌, ℕ, List, [], ◌++◌, ◌∷◌, decimal, drop, length, nat_eq, replicate};
-ghost use Rattle.std.specs.Prelude.{false, IfSome};
+ghost use Rattle.std.specs.Prelude.{◌≡◌, ◌≤◌, ◌<◌, ◌^◌, ℕ, List, [], ◌++◌, ◌∷◌, decimal, drop, length};
+ghost use Rattle.std.specs.Prelude.{false, nat_eq, replicate, IfSome};
 ghost use Rattle.std.specs.List.{prefix_len};
 ghost use Rattle.vir_altset.specs.Sets.{limit};
 ghost use Rattle.vir_soc.specs.Reader.UsualLines.{BeginsWithOrder, BeginsWithVotes, HasLineFeed};

@@ -141,9 +141,10 @@ read_word-returns-in-Ok-clause-tree t c =
     let opens = word_opens c.args.text.now (inside c.args.text.now c.args.room) c.args.word no_token c.args.list.now
     c.args.from c.if-not-is_symbol.ensures.symbol in
     let room : 0 < c.args.room = (let n = c.if-room-eq0.false in omega arith) in
+    let of_word = c.args.word in
     opens ∙ ap (λ i. word_then c.args.text.now i c.args.word (get_or c.args.list.now c.args.from no_token)
     (drop (c.args.from + 1) c.args.list.now) OpenParenthesis) (inside-room c.args.text.now c.args.room room)
-    ∙ ap (λ r. r >>= λ found. Ok (word c.args.word.start c.args.word.end (gathered found.0), found.1)) c.in-Ok.ensures.members
+    ∙ ap (λ r. r >>= λ found. Ok (word of_word.start of_word.end (gathered found.0), found.1)) c.in-Ok.ensures.members
     ∙ ap (λ t. Ok (t, drop c.in-Ok.field-0.next c.args.list.now))
     (sym (raw_tree-word c.args.word.start c.args.word.end c.in-Ok.field-0.trees))
 
