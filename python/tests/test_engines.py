@@ -91,8 +91,31 @@ class Words(unittest.TestCase):
             (lambda: virage.count("bord", CIRCLE), "'bord': no such file; a term as a string, or text with a"),
             (lambda: virage.count("elect", "3: 1,2"), "the text of a profile has a line feed"),
             (lambda: virage.batch("elect", [profile("tied"), "no.soc"]), "'no.soc': no such file"),
+            (lambda: virage.count("seq(plurality", CIRCLE), "'seq(plurality': neither a file nor a term: ')' is missing"),
+            (lambda: virage.count("r=elect", CIRCLE), "a semicolon behind each definition, as 'r=elect;'"),
+            (lambda: virage.count("pass(1,[2", CIRCLE), "neither a file nor a term: ')' is missing"),
+            (lambda: virage.count("rules/x=1.vir", CIRCLE), "'rules/x=1.vir': no such file"),
         ):
             with self.assertRaises(virage.ReadFault) as fault:
+                call()
+            self.assertIn(said, str(fault.exception))
+
+    def test_what_cannot_be_given_is_named(self) -> None:
+        for call, said in (
+            (lambda: virage.count("elect", []), "profile has no votes"),
+            (lambda: virage.count("elect", iter(())), "profile has no votes"),
+            (lambda: virage.count(None, CIRCLE), "rule is a path, the text of a rule file, or a term, and not None"),
+            (lambda: virage.count("elect", None), "profile is a path, the text of a profile, a Profile, or a list of"),
+            (lambda: virage.pairs(3.5), "and not 3.5"),
+            (lambda: virage.refute("elect", "mono", CIRCLE, 7, 1), "second is a path"),
+            (lambda: virage.batch("elect", [CIRCLE, 5]), "profiles[1] is a path"),
+            (lambda: virage.batch("elect", {"a": None}), "profiles['a'] is a path"),
+            (lambda: virage.batch("elect", "x.soc"), "profiles is a list of profiles, or a dictionary of them"),
+            (lambda: virage.check(None), "certificate is a path or a text, and not None"),
+            (lambda: virage.search(None, "cc"), "rule is a path"),
+            (lambda: virage.Profile.of(None), "lines is a list of weights and orders, and not None"),
+        ):
+            with self.assertRaises((TypeError, ValueError)) as fault:
                 call()
             self.assertIn(said, str(fault.exception))
 

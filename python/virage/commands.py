@@ -2,6 +2,7 @@
 
 from __future__ import annotations
 
+import collections.abc
 import operator
 from dataclasses import replace
 from typing import (
@@ -118,7 +119,7 @@ def refute(
     with Files() as files:
         words: List[Union[str, Given]] = [files.rule(rule), property, files.profile(profile)]
         if second is not None and lifted is not None:
-            words += [files.profile(second, "second.soc"), str(operator.index(lifted))]
+            words += [files.profile(second, "second.soc", "second"), str(operator.index(lifted))]
         return _answer(read_case_verdict, program, "refute", *words)
 
 
@@ -172,7 +173,10 @@ def batch(
     rows: List[Union[Counted, Refused]] = []
     with Files() as files:
         given_rule = files.rule(rule)
-        given = [_called(files.profile(it, f"{i}.soc"), key, i) for i, (key, it) in enumerate(_each(profiles))]
+        given = [
+            _called(files.profile(it, f"{i}.soc", f"profiles[{i if key is None else key!r}]"), key, i)
+            for i, (key, it) in enumerate(_each(profiles))
+        ]
         for part in _cut(given, (program or engine()).most_profiles):
             manifest = files.manifest(part)
             read = _answer(lambda text: read_batch(text, manifest.names), program, "batch", given_rule, manifest)
@@ -184,6 +188,8 @@ def _each(
     profiles: Union[Iterable[ProfileLike], Mapping[str, ProfileLike]],
 ) -> Iterable[Tuple[Optional[str], ProfileLike]]:
     """The profiles, each with its key, if it has one."""
+    if isinstance(profiles, (str, bytes)) or not isinstance(profiles, collections.abc.Iterable):
+        raise TypeError(f"profiles is a list of profiles, or a dictionary of them, and not {profiles!r}")
     if isinstance(profiles, Mapping):
         return profiles.items()
     return ((None, it) for it in profiles)

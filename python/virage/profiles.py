@@ -2,6 +2,7 @@
 
 from __future__ import annotations
 
+import collections.abc
 import operator
 import os
 import re
@@ -35,6 +36,7 @@ class Profile:
 
         The alternatives are numbered as in `names`; without them, where orders list names, as in the first order.
         """
+        _of_type("lines", lines, "a list of weights and orders", collections.abc.Iterable)
         ballots = list(map(_ballot, lines))
         first = ballots[0][1] if ballots else ()
         called = list(names) or [name for name in first if isinstance(name, str)]
@@ -130,7 +132,7 @@ class Given:
         if self._named is None:
             return None
         if not os.path.lexists(self._named):
-            return f"{self._named!r}: no such file{_meant(self.name, self._named)}"
+            return f"{self._named!r}: {_missing(self.name, self._named)}"
         if not os.path.exists(self._named):
             return f"{self._named!r}: a link to no file"
         if os.path.isdir(self._named):
@@ -220,12 +222,13 @@ class Files:
         """
         if isinstance(rule, Term):
             return self._term(str(rule))
+        _of_type("rule", rule, "a path, the text of a rule file, or a term", str, bytes, os.PathLike)
         if isinstance(rule, str) and ";" not in rule and _is_term(rule):
             return self._term(rule)
         return self.path_or_text(RULE_FILE, rule, ";")
 
-    def profile(self, profile: ProfileLike, name: str = "profile.soc") -> Given:
-        """The file of a profile, of this name where it has none.
+    def profile(self, profile: ProfileLike, name: str = "profile.soc", parameter: str = "profile") -> Given:
+        """The file of a profile, of this name where it has none, which was given as this parameter.
 
         A string that holds a line feed is the text of a profile, any other a file's name.
         """
@@ -233,7 +236,12 @@ class Files:
             return Given(self, name, None, profile.text())
         if isinstance(profile, (str, bytes, os.PathLike)):
             return self.path_or_text(name, profile, "\n")
-        return Given(self, name, None, Profile.of(profile).text())
+        what = "a path, the text of a profile, a Profile, or a list of weights and orders"
+        _of_type(parameter, profile, what, collections.abc.Iterable)
+        listed = Profile.of(profile)
+        if listed.alternatives == 0:
+            raise ValueError(f"{parameter} has no votes: a list has a weight and an order at least, as [(3, [2, 1, 3])]")
+        return Given(self, name, None, listed.text())
 
     def manifest(self, listed: Sequence[Given]) -> Manifest:
         """A manifest of these files."""
@@ -241,6 +249,7 @@ class Files:
 
     def path_or_text(self, name: str, given: PathOrText, sign: str) -> Given:
         """The file itself, or one of this name for a text: bytes, or a string that holds the sign."""
+        _of_type(name.partition(".")[0], given, "a path or a text", str, bytes, os.PathLike)
         if isinstance(given, bytes):
             return Given(self, name, None, given)
         if isinstance(given, str) and sign in given:
@@ -278,14 +287,38 @@ def _is_term(text: str) -> bool:
     return True
 
 
-def _meant(name: str, path: str) -> str:
-    """What may be meant by a string that is taken for the path of a file of this name and isn't one."""
+def _of_type(parameter: str, given: object, what: str, *types: type) -> None:
+    """Raises a TypeError that names the parameter, where what is given for it is none of these."""
+    if not isinstance(given, types):
+        raise TypeError(f"{parameter} is {what}, and not {given!r}")
+
+
+def _missing(name: str, path: str) -> str:
+    """That a string isn't the path of a file of this name, and what may be meant by it."""
     if name == RULE_FILE and re.fullmatch(r"[a-z]+", path):
         said = f'; "seq(max({path}),elect)" is a rule of this score' if path in SCORES else ""
-        return f"; a term as a string, or text with a semicolon, is a rule that isn't read from a file{said}"
+        return f"no such file; a term as a string, or text with a semicolon, is a rule that isn't read from a file{said}"
+    if name == RULE_FILE and re.search(r"[()=[\]]", path) and not path.endswith(".vir") and os.sep not in path:
+        return f"neither a file nor a term: {_wrong_term(path)}"
     if name != RULE_FILE and re.fullmatch(r"[0-9]+:[0-9, ]+", path):
-        return "; the text of a profile has a line feed"
-    return ""
+        return "no such file; the text of a profile has a line feed"
+    return "no such file"
+
+
+def _wrong_term(text: str) -> str:
+    """What is wrong with a string that is meant as a term, or as the text of a rule file, and is neither."""
+    if "=" in text:
+        return f"the text of a rule file has a semicolon behind each definition, as {text.strip() + ';'!r}"
+    for opening, closing in ("()", "[]"):
+        more = text.count(opening) - text.count(closing)
+        if more:
+            missing = (closing if more > 0 else opening) * abs(more)
+            return f"{missing!r} {'is' if abs(more) == 1 else 'are'} missing"
+    try:
+        Term.read(text)
+    except ValueError as stop:
+        return str(stop)
+    return "it can't be read"
 
 
 def _is_text(path: str) -> bool:

@@ -236,7 +236,7 @@ def _for_many_calls() -> Engine:
 
 def _once_read(rule: RuleLike) -> RuleLike:
     """The rule, and of a file its content, so that it is read just once."""
-    if isinstance(rule, (Term, bytes)) or (isinstance(rule, str) and ";" in rule) or not os.path.exists(rule):
+    if not isinstance(rule, (str, os.PathLike)) or (isinstance(rule, str) and ";" in rule) or not os.path.exists(rule):
         return rule
     with open(rule, "rb") as file:
         return file.read()
