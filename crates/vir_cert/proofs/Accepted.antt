@@ -8,11 +8,11 @@ use Rattle.vir_term.specs.declared.prop.Prop.{Prop}
 use Rattle.vir_term.specs.Limits.{IsCount, IsWithinLimits}
 use Rattle.vir_term.specs.Tree.{Tree}
 use Rattle.vir_read.specs.declared.token.Token.{Token}
-use Rattle.vir_read.specs.declared.symbol.Symbol.TheVariants.{Word}
+use Rattle.vir_read.specs.declared.symbol.Symbol.TheVariants.{Word, CloseParenthesis}
 use Rattle.vir_read.specs.Faults.{◌>>=◌}
 use Rattle.vir_read.specs.Tokens.{tokens_of}
 use Rattle.vir_read.specs.RawTrees.{RawTree, RawTrees, word, number, bracket, none as no_raws, more as more_raws}
-use Rattle.vir_read.specs.Grammar.{Read, symbol_of, unexpected, tree_of}
+use Rattle.vir_read.specs.Grammar.{Read, symbol_of, unexpected, tree_of, separator_of, goes_on}
 use Rattle.vir_read.specs.Arguments.{AreWithinLimits, span, count_of}
 use Rattle.vir_read.specs.Typing.{term_of, first_place}
 use Rattle.vir_read.proofs.LimitLemmas.{bind_ok, ok_ok, guard_else, count_of_ok, term_of_within}
@@ -26,9 +26,9 @@ use Rattle.vir_rules.specs.RuleTrees.{IsRule, AreRules, AllAreRules, RuleTree, R
 use Rattle.vir_rules.specs.RuleTrees.{nesting, nesting_of_all}
 use Rattle.vir_rules.proofs.ByName.{named_within}
 use Rattle.vir_rules.proofs.PropTexts.{named_alone}
-use Rattle.vir_cert.specs.declared.derivation_reader.Separator.{Separator}
-use Rattle.vir_cert.specs.declared.derivation_reader.Separator.TheVariants as separator
-use Rattle.vir_cert.specs.Derivations.{PlacedRule, Reads, up_to, known_rule, name_of, separator_of, goes_on}
+use Rattle.vir_read.specs.declared.tree_reader.Separator.{Separator}
+use Rattle.vir_read.specs.declared.tree_reader.Separator.TheVariants as separator
+use Rattle.vir_cert.specs.Derivations.{PlacedRule, Reads, up_to, known_rule, name_of}
 use Rattle.vir_cert.specs.Derivations.{children, opens, behind_rule, derivation_within, derivation_of}
 use Rattle.vir_cert.specs.Properties.{prop_alone, prop_of_number, prop_then, prop_of}
 use Rattle.vir_cert.specs.declared.version.Version.{Version}
@@ -108,9 +108,10 @@ module _ (text : List ℕ) (last : ℕ) where
       × List Token) → children text reads most tokens ≡ Ok x → AreGood room (gathered x.0)
   children_ok room reads good zero tokens x h = absurd (unexpected_ok text tokens x h)
   children_ok room reads good (suc most) tokens x h =
-      let b = bind_ok (reads tokens) (λ first. separator_of text first.1 >>= λ s.
+      let b = bind_ok (reads tokens) (λ first. separator_of text CloseParenthesis first.1 >>= λ s.
       goes_on first.0 (children text reads most) s.1 s.0) x h in
-      let s = bind_ok (separator_of text b.0.1) (λ s. goes_on b.0.0 (children text reads most) s.1 s.0) x b.2 in
+      let others = children text reads most in
+      let s = bind_ok (separator_of text CloseParenthesis b.0.1) (λ s. goes_on b.0.0 others s.1 s.0) x b.2 in
       goes_on_ok room b.0.0 (children text reads most) s.0.1 s.0.0 x (good tokens b.0 b.1)
       (λ y k. children_ok room reads good most s.0.1 y k) s.2
 

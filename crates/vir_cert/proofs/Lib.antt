@@ -1,5 +1,4 @@
 pub mod PropertyLemmas
-pub mod ChildrenLemmas
 pub mod WithinLemmas
 pub mod RoundTripDerivations
 pub mod UntilFree

@@ -8,7 +8,7 @@ use Rattle.vir_read.specs.declared.text_fault.TextKind.TheVariants.{TooDeep}
 use Rattle.vir_read.specs.Faults.{Fails, ◌>>=◌, fault}
 use Rattle.vir_rules.specs.RuleTrees.{RuleTree, node, gathered}
 use Rattle.vir_cert.specs.Derivations.{PlacedRule, Reads, behind_rule, children, derivation_within, name_of, opens}
-use Rattle.vir_cert.proofs.ChildrenLemmas.{fails-bind}
+use Rattle.vir_read.proofs.TypingLemmas.{fails_on}
 
 -- a rule behind whose name a parenthesis opens
 pub behind-opened : (text : List ℕ) (inside : Reads) (rule : ℕ) (list : List Token) (from : ℕ)
@@ -24,10 +24,10 @@ module _ (text : List ℕ) (last : ℕ) where
   pub within-fails : (room : ℕ) (tokens : List Token) (e : TextError) → Fails e (name_of text last tokens)
       → Fails e (derivation_within text last room tokens)
   unfolding derivation_within
-  within-fails zero tokens e h = fails-bind {B = RuleTree × List Token} e (name_of text last tokens)
+  within-fails zero tokens e h = fails_on {B = RuleTree × List Token} e (name_of text last tokens)
       (λ found. Err (fault TooDeep found.0.at)) h
   within-fails (suc room) tokens e h =
-      fails-bind {B = RuleTree × List Token} e (name_of text last tokens)
+      fails_on {B = RuleTree × List Token} e (name_of text last tokens)
       (λ found. behind_rule text (derivation_within text last room) found.0.rule found.1) h
 
   pub within-no_room : (room : ℕ) (tokens rest : List Token) (found : PlacedRule) → room ≡ 0 → name_of text last tokens

@@ -6,16 +6,14 @@ use Rattle.std.specs.Prelude.{ℕ, zero, suc, Bool, true, false, List, [], ◌�
 use Rattle.std.specs.Prelude.{if◌then◌else◌, nat_le}
 use Rattle.vir_read.specs.declared.token.Token.{Token}
 use Rattle.vir_read.specs.declared.symbol.Symbol.{Symbol}
-use Rattle.vir_read.specs.declared.symbol.Symbol.TheVariants.{Word, OpenParenthesis, CloseParenthesis, Comma}
+use Rattle.vir_read.specs.declared.symbol.Symbol.TheVariants.{Word, OpenParenthesis, CloseParenthesis}
 use Rattle.vir_read.specs.declared.text_fault.TextKind.TheVariants.{TooDeep, UnknownRule}
 use Rattle.vir_read.specs.Faults.{◌>>=◌, fault}
 use Rattle.vir_read.specs.Symbols.{symbol}
-use Rattle.vir_read.specs.Grammar.{Read, symbol_of, unexpected}
+use Rattle.vir_read.specs.Grammar.{Read, members, symbol_of}
 use Rattle.vir_read.specs.Arguments.{span}
 use Rattle.vir_rules.specs.RuleTrees.{RuleTree, node, none, gathered}
 use Rattle.vir_rules.specs.Named.{rule_named}
-use Rattle.vir_cert.specs.declared.derivation_reader.Separator.{Separator}
-use Rattle.vir_cert.specs.declared.derivation_reader.Separator.TheVariants as separator
 
 -- how a derivation is read
 abbrev pub Reads : Type 0
@@ -46,28 +44,9 @@ name_of text last tokens =
 
 -- ---- derivations in parentheses
 
--- a separator, by the sort of its token
-abbrev pub separator_then : List ℕ → Token → List Token → Symbol → Read Separator
-separator_then text t rest Comma = Ok (separator.Comma, rest)
-separator_then text t rest CloseParenthesis = Ok (separator.Close, rest)
-separator_then text t rest _ = unexpected text (t ∷ rest)
-
--- behind a derivation stands a comma, or the closing parenthesis
-abbrev pub separator_of : List ℕ → List Token → Read Separator
-separator_of text [] = unexpected text []
-separator_of text (t ∷ rest) = separator_then text t rest (symbol text t)
-
--- behind a comma stand further ones
-abbrev pub goes_on : RuleTree → (List Token → Read (List RuleTree)) → List Token → Separator → Read (List RuleTree)
-goes_on first further rest separator.Comma = further rest >>= λ others. Ok (first ∷ others.0, others.1)
-goes_on first further rest separator.Close = Ok (first ∷ [], rest)
-
 -- derivations, at most so many, up to the closing parenthesis
 abbrev pub children : List ℕ → Reads → ℕ → List Token → Read (List RuleTree)
-children text derivation zero tokens = unexpected text tokens
-children text derivation (suc most) tokens =
-    derivation tokens >>= λ first. separator_of text first.1 >>= λ s. goes_on first.0 (children text derivation most)
-    s.1 s.0
+children text derivation most tokens = members text CloseParenthesis derivation most tokens
 
 -- ---- derivations
 

@@ -4,11 +4,14 @@ ghost use Rattle.vir_read.specs.Faults.{Gives};
 ghost use Rattle.vir_rules.specs.Named.{rule_named};
 ghost use Rattle.vir_rules.specs.RuleTrees.{RuleTree, rule_tree, rule_trees};
 ghost use Rattle.vir_cert.specs.Derivations.{behind_rule, children, derivation_of, derivation_within, name_of, opens};
-ghost use Rattle.vir_cert.specs.Derivations.{separator_of, up_to};
+ghost use Rattle.vir_cert.specs.Derivations.{up_to};
 ghost use Rattle.vir_cert.specs.Seen.{rule_seen};
 
 use std::alloc::Global;
-use vir_read::{Symbol, TextError, TextKind, Token, front, read_symbol, span, unexpected};
+use vir_read::{
+    Separator, Symbol, TextError, TextKind, Token, front, read_separator, read_symbol, span,
+    unexpected,
+};
 use vir_rules::{Children, Derivation, RuleId};
 
 // How deep a derivation may be nested.
@@ -33,13 +36,6 @@ struct ChildrenEnd {
 struct RuleAt {
     rule: RuleId,
     at: usize,
-}
-
-// What stands behind a derivation in parentheses.
-#[derive(Clone, Copy)]
-enum Separator {
-    Comma,
-    Close,
 }
 
 // The rule of a name, where it is one of the first so many.
@@ -71,21 +67,6 @@ fn read_name(text: &[u8], list: &[Token], at: usize, last: usize) -> Result<Rule
             rule,
             at: token.start as usize,
         }),
-    }
-}
-
-// What stands behind a derivation in parentheses, at an index.
-fn read_separator(text: &[u8], list: &[Token], at: usize) -> Result<Separator, TextError>
-    ensures exact { Gives (λ s. (s, drop (at + 1) list.now)) result (separator_of text.now (drop at list.now)) }
-    ensures within { OnOk result (at < length list.now) }
-{
-    match front(list, at) {
-        None => Err(unexpected(text, list, at)),
-        Some(token) => match token.symbol(text) {
-            Symbol::Comma => Ok(Separator::Comma),
-            Symbol::CloseParenthesis => Ok(Separator::Close),
-            _ => Err(unexpected(text, list, at)),
-        },
     }
 }
 
@@ -126,7 +107,7 @@ fn read_children(
         };
         let behind = child.next;
         children.push(child.derivation)?;
-        match read_separator(text, list, behind) {
+        match read_separator(text, list, behind, Symbol::CloseParenthesis) {
             Ok(Separator::Comma) => at = behind + 1,
             Ok(Separator::Close) => {
                 return Ok(ChildrenEnd {

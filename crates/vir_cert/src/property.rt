@@ -1,5 +1,5 @@
 // The property that a tree stands for.
-ghost use Rattle.std.specs.Prelude.{◌≡◌, ◌∷◌, [], length, MatchOption};
+ghost use Rattle.std.specs.Prelude.{◌≡◌};
 ghost use Rattle.vir_read.specs.Faults.{Gives};
 ghost use Rattle.vir_read.specs.RawTrees.{gathered, listed, raw_tree};
 ghost use Rattle.vir_rules.specs.Named.{prop_named};
@@ -9,20 +9,6 @@ ghost use Rattle.vir_cert.specs.Versions.{known_prop};
 use crate::version::Version;
 use vir_read::{Raw, RawList, TextError, TextKind, count_of, span};
 use vir_rules::{Counted, Prop, PropName};
-
-// The one tree of a list, where it is one.
-#[tactic(auto, using(vir_read::proofs::TypingLemmas::one_of, vir_read::proofs::TypingLemmas::not_gone))]
-fn only(parts: &RawList) -> Option<&Raw>
-    ensures { MatchOption result (length (listed parts.now) ≡ 1 → ⊥) (λ raw. listed parts.now ≡ raw_tree raw.now ∷ []) }
-{
-    if parts.len() != 1 {
-        return None;
-    }
-    let Some(raw) = parts.at(0) else {
-        return None;
-    };
-    Some(raw)
-}
 
 // A property that has no number.
 #[tactic(auto, using(crate::proofs::PropertyLemmas::not_alone))]
@@ -41,7 +27,7 @@ fn prop_alone(at: usize, prop: Prop, parts: &RawList) -> Result<Prop, TextError>
 fn prop_of_number(text: &[u8], at: usize, name: Counted, parts: &RawList) -> Result<Prop, TextError>
     ensures { Gives (λ p. p) result (prop_of_number text.now at name (gathered (listed parts.now))) }
 {
-    match only(parts) {
+    match parts.one() {
         None => Err(TextError::fault(TextKind::WrongCountOfArguments, at)),
         Some(raw) => match count_of(text, raw) {
             Ok(k) => Ok(name.prop(k)),

@@ -1,11 +1,13 @@
 use Rattle.std.proofs.Common.{◌+◌, ◌-◌, ◌<◌, length, drop, Ok, ap, sym, ◌∙◌, subst, arith}
-use Rattle.vir_read.proofs.TypingLemmas.{fails_fault}
+use Rattle.vir_read.specs.declared.symbol.Symbol.TheVariants.{CloseParenthesis}
+use Rattle.vir_read.proofs.ListedLemmas.{with_front}
+use Rattle.vir_read.proofs.MemberLemmas.{continues}
+use Rattle.vir_read.proofs.TypingLemmas.{fails_as, fails_fault, fails_on}
 use Rattle.vir_read.specs.Faults.{Gives, ◌>>=◌}
 use Rattle.vir_rules.specs.RuleTrees.{node, gathered, rule_tree, rule_trees}
 use Rattle.vir_rules.proofs.TreeLaws.{tree_made}
 use Rattle.vir_cert.specs.Derivations.{children, derivation_within}
 use Rattle.vir_cert.specs.Seen.{rule_seen}
-use Rattle.vir_cert.proofs.ChildrenLemmas.{with_front, fails-bind, fails-same, continues}
 use Rattle.vir_cert.proofs.WithinLemmas.{behind-opened, within-fails, within-no_room, within-room}
 use Rattle.vir_cert.proofs.derivation_reader.+derivation.Goals as goal
 
@@ -18,28 +20,25 @@ read_behind-returns-in-Ok-clause-tree t c =
 
 pub read_behind-returns-in-Err-clause-tree : goal.read_behind-returns-in-Err-clause-tree
 read_behind-returns-in-Err-clause-tree t c =
-    fails-same c.in-Err.e _ _ (behind-opened c.args.text.now (derivation_within c.args.text.now c.args.last c.args.room)
+    fails_as c.in-Err.e _ _ (behind-opened c.args.text.now (derivation_within c.args.text.now c.args.last c.args.room)
     c.args.rule c.args.list.now c.args.from (sym c.if-not-opens.ensures.exact))
-    (fails-bind c.in-Err.e _ (λ found. Ok (node c.args.rule (gathered found.0), found.1)) c.in-Err.ensures.children)
+    (fails_on c.in-Err.e _ (λ found. Ok (node c.args.rule (gathered found.0), found.1)) c.in-Err.ensures.children)
 
 pub read_children-loop-preserved : goal.read_children-loop-preserved
 read_children-loop-preserved t c =
-    let text = c.args.text.now in
     let tree = derivation_within c.args.text.now c.args.last c.args.room in
     let list = c.args.list.now in
-    let h = c.in-Ok.ensures.forward.0 in
-    let k = c.in-Ok-Comma.ensures.within in
-    let l = c.loop.invariant.forward in
+    let l = c.loop in
     record {
       whole =
-          ap (λ trees. with_front trees (children text tree (length list - (c.loop.counter + 1))
+          ap (λ trees. with_front trees (children c.args.text.now tree (length list - (c.loop.counter + 1))
           (drop (c.in-Ok.child.next + 1) list))) c.in_ok-push.ensures.ok
-          ∙ continues text tree list _ (rule_trees c.loop.children) c.loop.counter c.loop.at c.loop-test.true
+          ∙ continues c.args.text.now CloseParenthesis tree list _ (rule_trees l.children) l.counter l.at c.loop-test.true
           c.loop.invariant.whole (rule_tree c.in-Ok.child.derivation) (drop c.in-Ok.child.next list)
           c.in-Ok.ensures.tree
           (drop (c.in-Ok.child.next + 1) list) (rw c.in-Ok-Comma.field-0-is at c.in-Ok-Comma.ensures.exact);
-      forward = omega arith;
-      within = omega arith;
+      forward = omega (arith, c.in-Ok.ensures.forward.0, c.loop.invariant.forward);
+      within = omega (arith, c.in-Ok-Comma.ensures.within);
     }
 
 pub read_within-returns-in-Err-clause-tree : goal.read_within-returns-in-Err-clause-tree

@@ -1,7 +1,7 @@
 use Rattle.std.proofs.Common.{◌≡◌, ◌+◌, ◌-◌, ◌*◌, ◌≤◌, length, drop}
 use Rattle.vir_rules.specs.RuleTrees.{rule_trees}
 use Rattle.vir_cert.specs.Derivations.{children, derivation_within}
-use Rattle.vir_cert.proofs.ChildrenLemmas.{with_front}
+use Rattle.vir_read.proofs.ListedLemmas.{with_front}
 use Rattle.vir_cert.proofs.derivation_reader.+derivation.Given as goal
 
 abbrev pub decreases-read_behind : goal.decreases-read_behind
