@@ -6,12 +6,12 @@ use Rattle.vir_course.specs.declared.stop.Stop.{Stop}
 use Rattle.vir_course.specs.declared.stop.Stop.TheVariants as stop
 use Rattle.vir_files.specs.Contents.{Contents}
 use Rattle.vir_files.specs.Files.{accept, judge, profiles, read_as}
-use Rattle.vir_files.specs.Performs.{Performs}
+use Rattle.vir_files.specs.Performs.{Performs, RoseAtLast}
 use Rattle.vir_files.specs.Readings.{profile_at}
 use Rattle.vir_files.proofs.FedLemmas.{SeesFile}
 use Rattle.vir_files.proofs.PerformLemmas.{left_behind}
 use Rattle.vir_machine.specs.Runs.{BenchView}
-use Rattle.vir_outside.specs.Shelf.{Faulted, ShelfView}
+use Rattle.vir_outside.specs.Shelf.{ShelfView}
 use Rattle.vir_profile.specs.SocFiles.{File}
 use Rattle.vir_soc.specs.Soc.{soc}
 use Rattle.vir_soc.specs.declared.fault.SocFault.{SocFault}
@@ -82,7 +82,7 @@ performs_said name seen before after bench answer place r =
       are_contents = λ at name. r.are_contents 0 name;
       made = r.made;
       follows =
-          said_follows (Faulted (seen before) (seen after)) name (r.contents 0 name) r.made answer r.follows;
+          said_follows (RoseAtLast (seen before) (seen after)) name (r.contents 0 name) r.made answer r.follows;
       bench = r.bench;
       asked = r.asked;
       left = left_behind seen before after (last_read None r.made) _ _ (fails_so answer) r.left;

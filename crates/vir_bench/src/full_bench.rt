@@ -8,7 +8,7 @@ ghost use Rattle.vir_top.specs.Calls.{AnswersWords, Calls};
 ghost use Rattle.vir_top.specs.CommandCourses.{command_course};
 ghost use Rattle.vir_top.specs.Delivery.{Delivers};
 ghost use Rattle.vir_top.specs.Headline.{ReportPrinted};
-ghost use Rattle.vir_top.specs.Printed.{IsDueOfCommand, IsUsageDue, Printed, faults_of};
+ghost use Rattle.vir_top.specs.Printed.{IsDueOfCommand, IsUsageDue, Printed, faults_before, faults_of};
 ghost use Rattle.vir_words.specs.Command.{Command, are_listed, command_in, report};
 ghost use Rattle.vir_bench.specs.FullBench.{full_bench, full_kinds};
 
@@ -43,7 +43,8 @@ pub fn call_on_full_bench<S: Shelf, O: Sink, E: Sink>(
         (O.seen out.old).written (O.seen out.new).written) }
     ensures due { IfOk result (λ status. (command : Command) (all : Files) → command_in words.now ≡ Some command
         → (S.seen shelf.old).files ≡ Some all → IsDueOfCommand full_kinds all command status
-        (faults_of (S.seen shelf.old) (O.seen out.old)) (faults_of (S.seen shelf.new) (O.seen out.new))) }
+        (faults_before (S.seen shelf.old) (S.seen shelf.new) (O.seen out.old))
+        (faults_of (S.seen shelf.new) (O.seen out.new))) }
     // Words that are no command.
     ensures usage { IfOk result (λ status. command_in words.now ≡ None → IsUsageDue (are_listed words.now) status) }
     // The whole, on a bench of such counters, none of which was called.

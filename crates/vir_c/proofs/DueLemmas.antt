@@ -2,72 +2,45 @@
 use Rattle.std.proofs.Common.{◌≡◌, ◌⊎◌, ℕ, List, [], Option, None, Some, Result, Ok, Err, inl, inr, subst, arith, ap}
 use Rattle.std.proofs.Common.{◌∙◌, Bool, IsTrue}
 use Rattle.vir_bench.specs.FullBench.{full_bench, full_kinds}
-use Rattle.vir_course.specs.Courses.{Course, Follows}
+use Rattle.vir_course.specs.Courses.{Follows}
 use Rattle.vir_course.specs.Steps.{Step}
 use Rattle.vir_course.specs.Wordings.{Tells, Wording}
 use Rattle.vir_course.specs.declared.answer.Answer.{Answer}
-use Rattle.vir_course.specs.declared.answer.Answer.TheVariants as answer
 use Rattle.vir_course.specs.declared.stop.Stop.{Stop}
 use Rattle.vir_course.specs.declared.stop.Stop.TheVariants as stop
 use Rattle.vir_files.specs.Contents.{AreContents, Contents}
 use Rattle.vir_machine.specs.Runs.{BenchView}
 use Rattle.vir_outside.specs.Faults.{Rose}
-use Rattle.vir_outside.specs.Memory.{SinkState, sink_seen}
-use Rattle.vir_outside.specs.Shelf.{Faulted, Files, ShelfView}
+use Rattle.vir_outside.specs.Shelf.{Files, ShelfView}
+use Rattle.vir_course.proofs.CourseLemmas.{follows_rose}
+use Rattle.vir_files.specs.Performs.{RoseAtLast, begun}
 use Rattle.vir_top.specs.Calls.{AnswersWords}
 use Rattle.vir_top.specs.CommandCourses.{command_course}
 use Rattle.vir_course.specs.Wordings.{Reply, denies, prints}
-use Rattle.vir_top.specs.Delivery.{Delivers, reply_status}
+use Rattle.vir_top.specs.Delivery.{reply_status}
 use Rattle.vir_top.specs.Headline.{ReportPrinted}
-use Rattle.vir_top.specs.Printed.{IsDue, Printed, told_contents}
+use Rattle.vir_top.specs.Printed.{FaultCounts, IsDue, Printed, told_contents}
 use Rattle.vir_words.specs.Command.{Command, command_of, report}
 use Rattle.vir_c.specs.Answered.{AreTexts, IsAnswered, IsDueInMemory}
 
-pub none_rose : Rose 0 0 → ⊥
-none_rose rose = omega arith
-
--- where the count of the sink rose, memory was wanting while it was written, or all is written
-where_rose : (given : Result Answer Stop) (status : ℕ) (old new err_old err_new : SinkState) → old.faults ≡ 0
-    → Delivers given status (λ (s : SinkState). sink_seen s) old new (λ (s : SinkState). sink_seen s) err_old err_new
-    → Rose old.faults new.faults → ((status ≡ 0) ⊎ (status ≡ 1)) ⊎ ((status ≡ 6) ⊎ (status ≡ 7))
-where_rose (Ok (answer.Text text)) status old new err_old err_new zero (inl w) rose = inl (inl w.status_is)
-where_rose (Ok (answer.Denial text)) status old new err_old err_new zero (inl w) rose = inl (inr w.status_is)
-where_rose (Ok given) status old new err_old err_new zero (inr b) rose = inr (inl b.status_is)
-where_rose (Err reason) status old new err_old err_new zero told rose =
-    let same : new.faults ≡ 0 = ap (λ (s : SinkState). s.faults) told.nothing ∙ zero in
-    absurd (none_rose (subst (Rose 0) same (subst (λ (b : ℕ). Rose b new.faults) zero rose)))
+pub none_rose : (before : ℕ) → Rose before 0 → ⊥
+none_rose before rose = omega arith
 
 -- a reply has status 0 or 1
 of_reply : (reply : Reply) (status : ℕ) → status ≡ reply_status reply → (status ≡ 0) ⊎ (status ≡ 1)
 of_reply (prints bytes) status is = inl is
 of_reply (denies bytes) status is = inr is
 
-pub due_in_memory : (end : Result Wording Stop) (given : Result Answer Stop) (status : ℕ)
-    (old new err_old err_new : SinkState) → old.faults ≡ 0
-    → Delivers given status (λ (s : SinkState). sink_seen s) old new (λ (s : SinkState). sink_seen s) err_old err_new
-    → IsDue end status (record { shelf = 0; out = old.faults }) (record { shelf = 0; out = new.faults })
-    → IsDueInMemory end status
-due_in_memory (Ok wording) given status old new err_old err_new zero d (inl (inl rose)) = absurd (none_rose rose)
-due_in_memory (Ok wording) given status old new err_old err_new zero d (inl (inr rose)) =
-    where_rose given status old new err_old err_new zero d rose
-due_in_memory (Ok wording) given status old new err_old err_new zero d (inr (inl has)) =
-    inl (of_reply has.reply status has.status_is)
-due_in_memory (Ok wording) given status old new err_old err_new zero d (inr (inr is)) = inr (inr is)
-due_in_memory (Err reason) given status old new err_old err_new zero d (inl rose) = absurd (none_rose rose)
-due_in_memory (Err reason) given status old new err_old err_new zero d (inr due) = due
-
--- where no count rose, no reading failed
-follows_sure : (given : Result Answer Stop) (course : Course Wording) (made : List Step) (rose : Type 0)
-    → (rose → ⊥) → Follows Tells rose course made given → Follows Tells ⊥ course made given
-follows_sure (Ok x) course made rose none follows = follows
-follows_sure (Err stop.Usage) course made rose none follows = follows
-follows_sure (Err stop.ReadFault) course made rose none (inl failed) = absurd (none failed.0)
-follows_sure (Err stop.ReadFault) course made rose none (inr stopped) = inr stopped
-follows_sure (Err (stop.TextRefused fault)) course made rose none follows = follows
-follows_sure (Err (stop.ProfileRefused fault)) course made rose none follows = follows
-follows_sure (Err stop.WriteFault) course made rose none follows = follows
-follows_sure (Err stop.Memory) course made rose none follows = follows
-follows_sure (Err (stop.NoCounter text)) course made rose none follows = follows
+pub due_in_memory : (end : Result Wording Stop) (status : ℕ) (before after : FaultCounts) → after.shelf ≡ 0
+    → IsDue end status before after → IsDueInMemory end status
+due_in_memory (Ok wording) status before after zero (inl (inl has)) = inl (of_reply has.reply status has.status_is)
+due_in_memory (Ok wording) status before after zero (inl (inr is)) = inr (inr is)
+due_in_memory (Ok wording) status before after zero (inr (inl (is, rose))) =
+    absurd (none_rose before.shelf (subst (Rose before.shelf) zero rose))
+due_in_memory (Ok wording) status before after zero (inr (inr (is, rose))) = inr (inl is)
+due_in_memory (Err reason) status before after zero (inl due) = due
+due_in_memory (Err reason) status before after zero (inr (is, rose)) =
+    absurd (none_rose before.shelf (subst (Rose before.shelf) zero rose))
 
 -- words that are no command, or want of memory while they are read
 usage_or_memory : (listed : Bool) (given : Result Answer Stop)
@@ -88,16 +61,19 @@ usage_due listed asked seen old new before after given answers none =
 -- what is answered is what the course leads to by the told files
 pub follows_told : {S : Type 0} (listed : Bool) (asked : Option Command) (told : Files) (seen : S → ShelfView)
     (old new : S) (left : BenchView) (given : Result Answer Stop) → (seen old).files ≡ Some told
-    → (Faulted (seen old) (seen new) → ⊥) → AnswersWords listed asked seen old new full_bench left given
+    → (seen new).faults ≡ 0 → AnswersWords listed asked seen old new full_bench left given
     → (command : Command) → asked ≡ Some command → (made : List Step)
     × Follows Tells ⊥ (command_course full_kinds command (told_contents told)) made given
-follows_told listed asked told seen old new left given told_is none answers command asks =
+follows_told listed asked told seen old new left given told_is zero answers command asks =
     let p = subst (λ (o : Option Command). AnswersWords listed o seen old new full_bench left given) asks answers in
     let are = subst (λ (fs : Option Files). AreContents fs p.contents) told_is p.are_contents in
-    let same : p.contents ≡ told_contents told = (λ i place name. are place name i) in (
+    let same : p.contents ≡ told_contents told = (λ i place name. are place name i) in
+    let count = begun (seen old) (seen new) in
+    let never : RoseAtLast (seen old) (seen new) → ⊥ = λ rose. none_rose count (subst (Rose count) zero rose) in (
       p.made,
       subst (λ (cs : Contents). Follows Tells ⊥ (command_course full_kinds command cs) p.made given) same
-          (follows_sure given _ p.made _ none p.follows),
+          (follows_rose Tells (RoseAtLast (seen old) (seen new)) ⊥ (command_course full_kinds command p.contents) p.made
+          given never p.follows),
     )
 
 -- of a shelf and of sinks that are as they are made

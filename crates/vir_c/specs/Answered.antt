@@ -1,5 +1,5 @@
 -- What a call answers of words and files that are handed in whole: no device stands between.
-use Rattle.std.specs.Prelude.{◌≡◌, ◌⊎◌, ℕ, List, [], ◌++◌, None, Some, Result, Ok, Err, All}
+use Rattle.std.specs.Prelude.{◌≡◌, ◌⊎◌, ℕ, ◌<◌, List, [], ◌++◌, length, None, Some, Result, Ok, Err, All}
 use Rattle.std.specs.Str.{IsUtf8}
 use Rattle.vir_bench.specs.FullBench.{full_kinds}
 use Rattle.vir_course.specs.Courses.{Follows}
@@ -26,9 +26,9 @@ abbrev pub IsDueInMemory : Result Wording Stop → ℕ → Type 0
 IsDueInMemory (Ok wording) status = ((status ≡ 0) ⊎ (status ≡ 1)) ⊎ ((status ≡ 6) ⊎ (status ≡ 7))
 IsDueInMemory (Err reason) status = (status ≡ stop_status reason) ⊎ (status ≡ 7)
 
--- The text begins so.
+-- The text begins so, and it has more.
 abbrev pub IsFront : List ℕ → List ℕ → Type 0
-IsFront front text = (rest : List ℕ) × (text ≡ front ++ rest)
+IsFront front text = (rest : List ℕ) × (text ≡ front ++ rest) × (0 < length rest)
 
 -- The reply is the one text, and there is no line.
 pub record IsWhole (reply : Reply) (status : ℕ) (out err : List ℕ) : Type 0 where
@@ -36,18 +36,18 @@ pub record IsWhole (reply : Reply) (status : ℕ) (out err : List ℕ) : Type 0 
   pub out_is : out ≡ reply_bytes reply
   pub err_is : err ≡ []
 
--- Memory was wanting while the reply was written: its front is the one text, and a front of the line that says so the
--- other.
+-- Memory was wanting while the reply was written: its front is the one text, and the line that says so the other, or a
+-- front of that.
 pub record IsCutOff (reply : Reply) (status : ℕ) (out err : List ℕ) : Type 0 where
   pub status_is : status ≡ 6
   pub out_is : IsFront out (reply_bytes reply)
-  pub err_is : IsFront err (stop_line stop.WriteFault)
+  pub err_is : (err ≡ stop_line stop.WriteFault) ⊎ IsFront err (stop_line stop.WriteFault)
 
--- There is no reply, and the line says why, as far as there was memory for it.
+-- There is no reply, and the line says why.
 pub record IsRefused (reason : Stop) (status : ℕ) (out err : List ℕ) : Type 0 where
   pub status_is : status ≡ stop_status reason
   pub out_is : out ≡ []
-  pub err_is : IsFront err (stop_line reason)
+  pub err_is : err ≡ stop_line reason
 
 -- The status and the two texts that an answer has, or a reason why there is none.
 abbrev pub AreTexts : Result Answer Stop → ℕ → List ℕ → List ℕ → Type 0

@@ -1,8 +1,8 @@
 // A call with words and files that are handed in whole.
-ghost use Rattle.std.specs.Prelude.{◌≡◌, Err, IfOk};
+ghost use Rattle.std.specs.Prelude.{◌≡◌, Err, IfErr, IfOk, OnOk};
 ghost use Rattle.vir_c.specs.Answered.{AreText, IsAnswered};
 ghost use Rattle.vir_c.specs.Pieces.{files_of, pieces};
-ghost use Rattle.vir_c.specs.declared.pieces.Unread.TheVariants.{NotText};
+ghost use Rattle.vir_c.specs.declared.pieces.Unread.TheVariants.{Memory, NotText};
 
 use crate::FileSizes;
 use crate::pieces::{Unread, shelf_of, words_of};
@@ -17,6 +17,19 @@ pub struct Called {
     pub status: u8,
     pub out: MemorySink,
     pub err: MemorySink,
+}
+
+// What a call came to; where there was no memory for its line, that is told instead, with no line. Behind a text that
+// was cut off the line may be cut off too.
+fn unless_cut(status: u8, out: MemorySink, err: MemorySink) -> Result<Called, Unread>
+    ensures called { IfOk result (λ called. called ≡ record { status = status; out = out; err = err }) }
+    ensures whole { OnOk result (out.faults ≡ 0 → err.faults ≡ 0) }
+    ensures memory { IfErr result (λ reason. reason ≡ Memory) }
+{
+    if out.faults() == 0 && err.faults() > 0 {
+        return Err(Unread::Memory);
+    }
+    Ok(Called { status, out, err })
 }
 
 /// Answers the words of these sizes with the files of these sizes.
@@ -37,7 +50,7 @@ pub fn call(
     let mut out = MemorySink::new(alloc, usize::MAX);
     let mut err = MemorySink::new(alloc, usize::MAX);
     match call_on_full_bench(alloc, &words, &mut shelf, &mut out, &mut err) {
-        Ok(status) => Ok(Called { status, out, err }),
+        Ok(status) => unless_cut(status, out, err),
         Err(_) => Err(Unread::Memory),
     }
 }

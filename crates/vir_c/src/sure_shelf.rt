@@ -2,7 +2,7 @@
 ghost use Rattle.std.specs.Prelude.{◌≡◌, ◌⊎◌, ◌∷◌, [], false, IsTrue, OnErr, OnOk};
 ghost use Rattle.std.specs.Io.{ReadsAtMost};
 ghost use Rattle.std.specs.Io.KnownBytes.{ReadConsumes};
-ghost use Rattle.vir_outside.specs.Shelf.{Faulted, IsLater, Lacks, Selects, to_read, to_select};
+ghost use Rattle.vir_outside.specs.Shelf.{Faulted, IsLater, Lacks, Selects, moved, to_read, to_select};
 ghost use Rattle.vir_c.specs.Sure.{sure_seen};
 
 use vir_outside::{Failed, MemoryShelf, Shelf};
@@ -13,12 +13,14 @@ use vir_outside::{Failed, MemoryShelf, Shelf};
 pub struct SureShelf {
     inner: MemoryShelf,
     ghost sure: { inner.failing ≡ [] },
+    ghost faultless: { inner.faults ≡ 0 },
 }
 
 impl SureShelf {
-    /// This shelf, which has no listed call.
+    /// This shelf, which has no listed call and has counted no fault.
     pub fn new(inner: MemoryShelf) -> SureShelf
-        requires { inner.failing ≡ [] }
+        requires sure { inner.failing ≡ [] }
+        requires faultless { inner.faults ≡ 0 }
         ensures { result.inner ≡ inner }
     {
         SureShelf { inner }

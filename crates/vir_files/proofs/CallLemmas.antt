@@ -9,10 +9,10 @@ use Rattle.vir_course.specs.declared.stop.Stop.TheVariants as stop
 use Rattle.vir_course.proofs.CourseLemmas.{follows_rose, follows_stop, follows_then}
 use Rattle.vir_course.proofs.StepLemmas.{after_steps-append, last_read-append, last_read-steps_of_runs}
 use Rattle.vir_files.specs.Contents.{Contents}
-use Rattle.vir_files.specs.Performs.{AreAsked, LeftBehind, Performs, names_read}
+use Rattle.vir_files.specs.Performs.{AreAsked, LeftBehind, Performs, RoseAtLast, names_read}
 use Rattle.vir_files.proofs.ContentLemmas.{are_by_places, by_places, some_content}
 use Rattle.vir_files.proofs.PerformLemmas.{asked_then, later_same, left_behind, names_read-steps_of_runs, same_reason}
-use Rattle.vir_outside.specs.Shelf.{Faulted, Request, ShelfView}
+use Rattle.vir_outside.specs.Shelf.{Request, ShelfView}
 
 -- a shelf is asked for nothing by runs
 asked_by_runs : (asked : List Request) (runs : List Run) → AreAsked (names_read (steps_of_runs runs)) asked asked
@@ -26,7 +26,7 @@ module _ {S A B X Y : Type 0} (first : Contents → Course A) (next : A → Cour
   whole contents = and_then (first contents) next
 
   abbrev rose : Type 0
-  rose = Faulted (seen before) (seen after)
+  rose = RoseAtLast (seen before) (seen after)
 
   -- the files aren't read
   pub performs_stop : (reason : Stop) → Performs first Sees seen before after old old (Err reason)
@@ -105,7 +105,7 @@ performs_works course Sees seen shelf old new answer w =
       are_contents = are_by_places files at (λ place. ([], (some_content files []).1));
       made = steps_of_runs w.runs;
       follows =
-          follows_rose Sees ⊥ (Faulted (seen shelf) (seen shelf)) course (steps_of_runs w.runs) answer
+          follows_rose Sees ⊥ (RoseAtLast (seen shelf) (seen shelf)) course (steps_of_runs w.runs) answer
           (λ never. absurd never) w.follows;
       bench = w.bench;
       asked = asked_by_runs (seen shelf).asked w.runs;

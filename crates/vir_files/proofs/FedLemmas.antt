@@ -4,7 +4,7 @@ use Rattle.std.proofs.Common.{Option, None, Some, Result, Ok, Err, IfSome, IsTru
 use Rattle.std.proofs.Common.{◌∙◌, arith, inl, IsSome, append-nil, length-append, length-take, subst}
 use Rattle.std.specs.Io.KnownBytes.{Consumes, IsAtEnd, Keeps, prepend_known}
 use Rattle.std.proofs.lemmas.Bool.Decides.{nat_tests}
-use Rattle.vir_outside.specs.Shelf.{Faulted, Files, IsLater, ReadsOn, Selects, ShelfView, told_content}
+use Rattle.vir_outside.specs.Shelf.{Faulted, Files, IsLater, Selects, ShelfView, before_reads, told_content}
 use Rattle.vir_outside.proofs.Rests.{consumes_more}
 use Rattle.vir_profile.specs.SocFiles.{File}
 use Rattle.vir_soc.specs.declared.fault.SocFault.{SocFault}
@@ -31,7 +31,7 @@ use Rattle.vir_files.proofs.PerformLemmas.{faulted_behind}
 
 -- A loop has fed so many bytes of what was left of the selected file to a reader.
 pub record IsFeeding (old now : ShelfView) (taken : ℕ) (reader : SocReader) : Type 0 where
-  pub reads_on : ReadsOn old now
+  pub reads_on : before_reads now.asked ≡ before_reads old.asked
   pub is_selected : IsTrue now.selected
   pub within : taken ≤ PROFILE_SIZE_LIMIT
   pub later : IsLater old now

@@ -1,7 +1,7 @@
 -- Files, read one after another.
 use Rattle.std.proofs.Common.{Bool}
-use Rattle.std.proofs.Common.{◌≡◌, ◌⊎◌, ℕ, ◌+◌, ◌<◌, ◌≤◌, List, [], ◌∷◌, ◌++◌, Option, None, Some, IsTrue, IsSome}
-use Rattle.std.proofs.Common.{Result, Ok, Err, refl, sym, ap, subst, ◌∙◌, inl, inr, arith, length}
+use Rattle.std.proofs.Common.{◌≡◌, ◌⊎◌, ℕ, zero, suc, ◌+◌, ◌<◌, ◌≤◌, List, [], ◌∷◌, ◌++◌, Option, None, Some}
+use Rattle.std.proofs.Common.{IsTrue, IsSome, Result, Ok, Err, refl, sym, ap, subst, ◌∙◌, inl, inr, arith, length}
 use Rattle.std.specs.Io.KnownBytes.{prepend_known}
 use Rattle.vir_course.specs.Courses.{Course, Follows, Reaches, and_then, gives}
 use Rattle.vir_machine.specs.Runs.{BenchView, Run}
@@ -12,11 +12,12 @@ use Rattle.vir_course.proofs.CourseLemmas.{follows_rose, follows_stop, follows_t
 use Rattle.vir_course.proofs.StepLemmas.{after_steps-append, last_read-append}
 use Rattle.vir_files.specs.Contents.{CanBe, Contents}
 use Rattle.vir_files.specs.Files.{Kind, asked_file, read_as}
-use Rattle.vir_files.specs.Performs.{AreAsked, AsksFirst, Left, LeftBehind, Performs, ReadsFile, Took, names_read}
+use Rattle.vir_files.specs.Performs.{AreAsked, AsksFirst, Left, LeftBehind, Performs, ReadsFile, RoseAtLast}
+use Rattle.vir_files.specs.Performs.{Took, counted_before, names_read}
 use Rattle.vir_files.proofs.ContentLemmas.{are_by_places, are_extended, at_place, by_places, extended, extended_at}
 use Rattle.vir_files.proofs.ContentLemmas.{extended_before, none_can, some_content}
 use Rattle.vir_outside.specs.Shelf.{AsksFor, Faulted, Files, IsLater, Lacks, Request, ShelfView, TakesAtMost}
-use Rattle.vir_outside.specs.Shelf.{told_content}
+use Rattle.vir_outside.specs.Shelf.{before_reads, to_read, to_select, to_write, told_content, up_to_select}
 
 -- ---- a shelf, and later on
 pub later_same : (shelf : ShelfView) → IsLater shelf shelf
@@ -33,6 +34,35 @@ pub faulted_behind : (old mid new : ShelfView) → IsLater old mid → Faulted m
 faulted_behind old mid new first rose =
     let early : old.faults ≤ mid.faults = first.faults in
     omega arith
+
+-- ---- how many faults were counted before the file that was selected last
+counted-before_reads : (asked : List Request) → counted_before (before_reads asked) ≡ counted_before asked
+counted-before_reads [] = refl
+counted-before_reads (to_select name faults ∷ before) = refl
+counted-before_reads (to_read zero ∷ before) = refl
+counted-before_reads (to_read (suc n) ∷ before) = counted-before_reads before
+counted-before_reads (to_write handed taken ∷ before) = refl
+
+counted-up_to_select : (asked : List Request) → counted_before (up_to_select asked) ≡ counted_before asked
+counted-up_to_select [] = refl
+counted-up_to_select (to_select name faults ∷ before) = refl
+counted-up_to_select (to_read n ∷ before) = counted-before_reads before
+counted-up_to_select (to_write handed taken ∷ before) = refl
+
+-- behind a file, those that there were
+counted_so : (old new : ShelfView) (name : List ℕ) → AsksFor old new name → counted_before new.asked ≡ old.faults
+counted_so old new name asks = sym (counted-up_to_select new.asked) ∙ ap counted_before asks
+
+-- a count that rose at a file rose since the last file was selected, also in a call that began before
+pub rose_at : (old mid new : ShelfView) (name : List ℕ) → IsLater old mid → AsksFor mid new name
+    → Faulted mid new → RoseAtLast old new
+rose_at old mid new name later asks rose =
+    let counted : counted_before new.asked ≡ mid.faults = counted_so mid new name asks in
+    let early : old.faults ≤ mid.faults = later.faults in
+    omega arith
+
+pub rose_since : (old mid new : ShelfView) → IsLater old mid → RoseAtLast mid new → RoseAtLast old new
+rose_since old mid new later rose = let early : old.faults ≤ mid.faults = later.faults in omega arith
 
 -- what is taken of a file that was told before
 pub takes_later : (old new : ShelfView) (name : List ℕ) (most : ℕ) → IsLater old new
@@ -57,7 +87,7 @@ asked_more : (names more : List (List ℕ)) (old mid new : List Request) → Are
     → AreAsked more mid new → AreAsked (names ++ more) old new
 asked_more [] more old mid new first next = subst (λ (requests : List Request). AreAsked more requests new) first next
 asked_more (name ∷ names) more old mid new first next =
-    (first.0, first.1, asked_more names more first.0 mid new first.2 next)
+    (first.0, first.1, first.2, asked_more names more first.1 mid new first.3 next)
 
 -- those of steps, and then of more
 pub asked_then : (old mid new : List Request) (made more : List Step) → AreAsked (names_read made) old mid
@@ -69,7 +99,7 @@ asked_then old mid new made more first next =
 -- one alone
 pub asks_alone : (old new : ShelfView) (name : List ℕ) → AsksFor old new name
     → AreAsked (name ∷ []) old.asked new.asked
-asks_alone old new name asks = (new.asked, asks, refl)
+asks_alone old new name asks = (old.faults, new.asked, asks, refl)
 
 -- one first
 pub asks_first : (old new : ShelfView) (name : List ℕ) → AsksFor old new name → AsksFirst old new name
@@ -131,7 +161,11 @@ performs_one kind Sees name seen old new answer r bench =
       contents = by_places (seen old).files at;
       are_contents = are_by_places (seen old).files at (λ place. (name, r.can_be));
       made = reads (asked_file kind name) ∷ [];
-      follows = placed kind Sees name (seen old).files (Faulted (seen old) (seen new)) at 0 answer r.can_be r.follows;
+      follows =
+          follows_rose Sees (Faulted (seen old) (seen new)) (RoseAtLast (seen old) (seen new))
+          (read_as kind name (by_places (seen old).files at 0 name)) (reads (asked_file kind name) ∷ []) answer
+          (rose_at (seen old) (seen old) (seen new) name (later_same (seen old)) r.took.asked)
+          (placed kind Sees name (seen old).files (Faulted (seen old) (seen new)) at 0 answer r.can_be r.follows);
       bench = refl;
       asked = asks_alone (seen old) (seen new) name r.took.asked;
       left = r.took.left;
@@ -215,7 +249,7 @@ module _ {S A B C G X Y Z : Type 0} (first : Contents → Course A) (place : ℕ
         are_contents = r.are_contents;
         made = r.made;
         follows =
-            follows_stop SeesFirst SeesAll (Faulted (seen old) (seen new)) (first r.contents) (further r.contents)
+            follows_stop SeesFirst SeesAll (RoseAtLast (seen old) (seen new)) (first r.contents) (further r.contents)
             r.made reason r.follows;
         bench = r.bench;
         asked = r.asked;
@@ -228,7 +262,7 @@ module _ {S A B C G X Y Z : Type 0} (first : Contents → Course A) (place : ℕ
     contents_with content = extended (seen old).files r.contents place content
 
     abbrev rose : Type 0
-    rose = Faulted (seen old) (seen new)
+    rose = RoseAtLast (seen old) (seen new)
 
     can_last : (content : Option (List ℕ)) → CanBe (seen mid).files other content → CanBe (seen old).files other content
     can_last content can = subst (λ (fs : Option Files). CanBe fs other content) r.later.files can
@@ -246,7 +280,7 @@ module _ {S A B C G X Y Z : Type 0} (first : Contents → Course A) (place : ℕ
         subst (λ (o : Option (List ℕ)). Follows SeesLast rose (read_as last other o) step answer)
         (extended_at (seen old).files r.contents place other s.content r.are_contents (can_last s.content s.can_be))
         (follows_rose SeesLast (Faulted (seen mid) (seen new)) rose (read_as last other s.content) step answer
-        (faulted_behind (seen old) (seen mid) (seen new) r.later) s.follows)
+        (rose_at (seen old) (seen mid) (seen new) other r.later s.took.asked) s.follows)
 
     -- what is answered behind both
     further_behind : (answer : Result Y Stop) (joined : Result Z Stop)

@@ -10,12 +10,12 @@ use Rattle.vir_course.specs.declared.stop.Stop.TheVariants as stop
 use Rattle.vir_course.proofs.CourseLemmas.{follows_rose, follows_stop, follows_then}
 use Rattle.vir_course.proofs.StepLemmas.{after_steps-append, last_read-append}
 use Rattle.vir_files.specs.Contents.{AreContents, CanBe, Contents}
-use Rattle.vir_files.specs.Performs.{Left, LeftBehind, Performs, ReadsFile}
+use Rattle.vir_files.specs.Performs.{Left, LeftBehind, Performs, ReadsFile, RoseAtLast}
 use Rattle.vir_files.specs.Files.{Kind, read_as}
-use Rattle.vir_files.proofs.PerformLemmas.{asked_then, faulted_behind, later_then, left_behind, left_so, performs_one}
-use Rattle.vir_files.proofs.PerformLemmas.{same_reason}
+use Rattle.vir_files.proofs.PerformLemmas.{asked_then, later_then, left_behind, left_so, performs_one}
+use Rattle.vir_files.proofs.PerformLemmas.{rose_since, same_reason}
 use Rattle.vir_machine.specs.Runs.{BenchView}
-use Rattle.vir_outside.specs.Shelf.{Faulted, Files, ShelfView}
+use Rattle.vir_outside.specs.Shelf.{Files, ShelfView}
 
 -- ---- joined contents
 -- the one contents at the places below a number, and the other ones from it on
@@ -80,7 +80,7 @@ module _ {S A B X Y : Type 0} (n : ℕ) (first : Contents → Course A) (next : 
   failed = answer ≡ Err stop.ReadFault
 
   abbrev rose : Type 0
-  rose = Faulted (seen before) (seen after)
+  rose = RoseAtLast (seen before) (seen after)
 
   -- the second leaves the shelf as the first did
   stay_left : (last : Option Asked) → after ≡ middle
@@ -123,8 +123,8 @@ module _ {S A B X Y : Type 0} (n : ℕ) (first : Contents → Course A) (next : 
       } in
       let last : Follows SeesNext rose (next value contents) p.made answer =
       subst (λ (c : Course B). Follows SeesNext rose c p.made answer) two
-      (follows_rose SeesNext (Faulted (seen middle) (seen after)) rose (next value p.contents) p.made answer
-      (faulted_behind (seen before) (seen middle) (seen after) r.later) p.follows) in
+      (follows_rose SeesNext (RoseAtLast (seen middle) (seen after)) rose (next value p.contents) p.made answer
+      (rose_since (seen before) (seen middle) (seen after) r.later) p.follows) in
       record {
         contents = contents;
         are_contents = are_joined (seen before).files n r.contents p.contents r.are_contents
@@ -154,8 +154,8 @@ module _ {S A B X Y : Type 0} (first : Contents → Course A) (Sees : A → X �
         are_contents = r.are_contents;
         made = r.made;
         follows =
-            follows_stop Sees SeesNext (Faulted (seen before) (seen after)) (first r.contents) (next r.contents) r.made
-            reason r.follows;
+            follows_stop Sees SeesNext (RoseAtLast (seen before) (seen after)) (first r.contents) (next r.contents)
+            r.made reason r.follows;
         bench = r.bench;
         asked = r.asked;
         left = left_behind seen before after (last_read None r.made) _ _ (λ e. same_reason reason e) r.left;

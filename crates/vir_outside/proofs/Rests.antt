@@ -1,12 +1,12 @@
 -- How the bytes read so far and what is left make up what there was.
-use Rattle.std.proofs.Common.{ℕ, ◌+◌, ◌-◌, ◌≤◌, List, ◌++◌, length, take, Option, None, Some, IsTrue, sym}
-use Rattle.std.proofs.Common.{ap, ◌∙◌, append_assoc, arith, length-append, length-take}
+use Rattle.std.proofs.Common.{◌≡◌, ℕ, zero, suc, ◌+◌, ◌-◌, ◌<◌, ◌≤◌, List, ◌∷◌, ◌++◌, length, take, Option, None, Some}
+use Rattle.std.proofs.Common.{IsTrue, refl, sym, ap, ◌∙◌, append_assoc, arith, length-append, length-take}
 use Rattle.std.specs.Io.KnownBytes.{Consumes}
-use Rattle.vir_outside.specs.Shelf.{IsLater, ReadsOn, ShelfView}
+use Rattle.vir_outside.specs.Shelf.{IsLater, Request, ShelfView, before_reads, to_read}
 
--- A loop has read these bytes of what was left of the selected file.
+-- A loop has read these bytes of what was left of the selected file, some by each read.
 pub record IsReading (old now : ShelfView) (limit : ℕ) (whole : List ℕ) : Type 0 where
-  pub reads_on : ReadsOn old now
+  pub reads_on : before_reads now.asked ≡ before_reads old.asked
   pub is_selected : IsTrue now.selected
   pub within : length whole ≤ limit
   pub later : IsLater old now
@@ -31,3 +31,9 @@ taken_more rest left new whole buf n limit first second within room = (
   omega (arith, length-append whole (take n buf), length-take n buf),
   consumes_more rest left new whole (take n buf) first second,
 )
+
+-- What was asked for before a read that gave some bytes.
+pub before_reads-some : (n : ℕ) (before : List Request) → 0 < n → before_reads (to_read n ∷ before)
+    ≡ before_reads before
+before_reads-some zero before some = absurd (omega arith)
+before_reads-some (suc n) before some = refl

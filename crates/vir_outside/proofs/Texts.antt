@@ -1,16 +1,17 @@
 -- How the bytes written so far and what is left make up a text.
-use Rattle.std.proofs.Common.{◌≡◌, ℕ, ◌+◌, ◌-◌, ◌≤◌, List, [], ◌++◌, length, take, drop, Option, None, Some, sym, ap}
-use Rattle.std.proofs.Common.{◌∙◌, append_assoc, arith, length-drop}
+use Rattle.std.proofs.Common.{◌≡◌, ℕ, ◌+◌, ◌-◌, ◌<◌, ◌≤◌, List, [], ◌∷◌, ◌++◌, length, take, drop, Option, None, Some}
+use Rattle.std.proofs.Common.{sym, ap, ◌∙◌, append_assoc, arith, length-drop}
 use Rattle.std.specs.Io.KnownBytes.{Appends}
-use Rattle.vir_outside.specs.Sink.{CallsAtMost, SinkView}
+use Rattle.vir_outside.specs.Shelf.{Request, to_read, to_select, to_write}
+use Rattle.vir_outside.specs.Sink.{AreSome, HandsSome, Leaves, SinkView}
 use Rattle.std.proofs.lemmas.List.{take_all, take-append-drop}
 
--- A loop has written the text but for what is left, by at most one call for each byte, and nothing was written of an
--- empty one.
+-- A loop has written the text but for what is left, and each write was handed all that was left before it. Nothing was
+-- written of an empty text.
 pub record IsWriting (text left : List ℕ) (old now : SinkView) (IsSame : Type 0) : Type 0 where
   pub later : old.faults ≤ now.faults
   pub front : (xs : List ℕ) × (text ≡ xs ++ left) × Appends old.written now.written xs
-  pub calls : CallsAtMost old.calls now.calls (length text - length left)
+  pub hands : (calls : List Request) × (now.asked ≡ calls ++ old.asked) × Leaves (length text) calls (length left)
   pub within : length left ≤ length text
   pub no_text : text ≡ [] → IsSame
 
@@ -38,10 +39,26 @@ written_more text front left n old mid new parts first second =
           old mid new front (take n left) first second,
     )
 
--- One more call than so many.
-pub one_more_call : (first mid last : Option ℕ) (n more : ℕ) → CallsAtMost first mid n → CallsAtMost mid last 1 → n
-    + 1 ≤ more → CallsAtMost first last more
-one_more_call None mid last n more before next within = tt
-one_more_call (Some a) None last n more before next within = absurd before
-one_more_call (Some a) (Some b) None n more before next within = absurd next
-one_more_call (Some a) (Some b) (Some c) n more before next within = omega arith
+-- One more write was handed all that was left.
+pub leaves_more : (size handed taken left : ℕ) (old mid new calls : List Request) → mid ≡ calls ++ old
+    → Leaves size calls handed → new ≡ to_write handed taken ∷ mid → left + taken ≡ handed → 0 < taken
+    → (more : List Request) × (new ≡ more ++ old) × Leaves size more left
+leaves_more size handed taken left old mid new calls behind so_far is more some =
+    (to_write handed taken ∷ calls, is ∙ ap (λ rs. to_write handed taken ∷ rs) behind, (more, some, so_far))
+
+-- Such writes are handed some bytes each.
+pub leaves_some : (size left : ℕ) (calls : List Request) → Leaves size calls left → AreSome calls
+leaves_some size left [] so_far = tt
+leaves_some size left (to_write handed taken ∷ before) so_far =
+    (omega arith, leaves_some size handed before so_far.2)
+leaves_some size left (to_select name faults ∷ before) so_far = absurd so_far
+leaves_some size left (to_read n ∷ before) so_far = absurd so_far
+
+-- And so is one more, behind which nothing is.
+pub hands_one : (size handed taken : ℕ) (old mid new calls : List Request) → mid ≡ calls ++ old
+    → Leaves size calls handed → new ≡ to_write handed taken ∷ mid → 0 < handed → HandsSome old new
+hands_one size handed taken old mid new calls behind so_far is some = (
+  to_write handed taken ∷ calls,
+  is ∙ ap (λ rs. to_write handed taken ∷ rs) behind,
+  (some, leaves_some size handed calls so_far),
+)

@@ -17,11 +17,12 @@ pub record FolderState : Type 0 where
 abbrev pub folder_seen : FolderState → ShelfView
 folder_seen s = record { files = None; faults = s.faults; asked = s.asked; selected = s.selected; rest = None }
 
--- A sink over a writer: what the writer says it holds, and the faults.
+-- A sink over a writer: what the writer says it holds, the faults, and what it was asked for.
 pub record StreamState : Type 0 where
   pub held : Option (List ℕ)
   pub faults : ℕ
+  pub asked : List Request
 
--- it tells neither the bytes nor the calls
+-- it doesn't tell the bytes
 abbrev pub stream_seen : StreamState → SinkView
-stream_seen s = record { faults = s.faults; written = None; calls = None }
+stream_seen s = record { faults = s.faults; written = None; asked = s.asked }

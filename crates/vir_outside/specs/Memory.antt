@@ -24,16 +24,17 @@ memory_seen s =
     record { files = Some s.files; faults = s.faults; asked = s.asked; selected = is_some s.rest; rest = s.rest }
 
 -- A sink in memory: how much a write takes at most, the numbers of the calls that fail, the calls
--- made, the faults, and the bytes written.
+-- made, the faults, the bytes written, and what it was asked for.
 pub record SinkState : Type 0 where
   pub most : ℕ
   pub failing : List ℕ
   pub calls : ℕ
   pub faults : ℕ
   pub bytes : List ℕ
+  pub asked : List Request
 
 abbrev pub sink_seen : SinkState → SinkView
-sink_seen s = record { faults = s.faults; written = Some s.bytes; calls = Some s.calls }
+sink_seen s = record { faults = s.faults; written = Some s.bytes; asked = s.asked }
 
 -- whether the call after so many is listed as failing
 abbrev pub is_next_listed : List ℕ → ℕ → Bool
@@ -51,12 +52,12 @@ after_call old at_fault rest =
 -- where there is one
 abbrev pub after_select : ShelfState → List ℕ → ShelfState
 after_select old name =
-    after_call (record old { asked = to_select name ∷ old.asked }) None (content_of old.files name)
+    after_call (record old { asked = to_select name old.faults ∷ old.asked }) None (content_of old.files name)
 
--- the shelf after `read` into so many bytes: a listed call takes nothing, any other all that fits
-abbrev pub after_read : ShelfState → ℕ → ShelfState
-after_read old room =
-    after_call (record old { asked = to_read ∷ old.asked }) old.rest (option_map (drop room) old.rest)
+-- the shelf after `read` into so many bytes, which gave so many: a listed call takes nothing, any other all that fits
+abbrev pub after_read : ShelfState → ℕ → ℕ → ShelfState
+after_read old room given =
+    after_call (record old { asked = to_read given ∷ old.asked }) old.rest (option_map (drop room) old.rest)
 
 -- what is left of the file at a place, behind so many bytes
 abbrev pub rest_at : Files → Option ℕ → ℕ → Option (List ℕ)

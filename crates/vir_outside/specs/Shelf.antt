@@ -1,5 +1,5 @@
 -- What a shelf tells of its files, and what a call takes of them.
-use Rattle.std.specs.Prelude.{◌≡◌, ℕ, ◌<◌, ◌≤◌, Bool, List, [], ◌∷◌, length}
+use Rattle.std.specs.Prelude.{◌≡◌, ℕ, zero, suc, ◌<◌, ◌≤◌, Bool, List, [], ◌∷◌, length, Result, Ok, Err}
 use Rattle.std.specs.Prelude.{None, Some, IsSome, IsTrue, option_and_then, if◌then◌else◌}
 use Rattle.std.specs.Str.{bytes_eq}
 use Rattle.std.specs.Io.KnownBytes.{prepend_known}
@@ -10,10 +10,18 @@ use Rattle.vir_outside.specs.Faults.{Rose}
 abbrev pub Files : Type 0
 Files = List (List ℕ × List ℕ)
 
--- what a shelf is asked for: to select the file of this name, or to read on in the selected one
+-- What a shelf or a sink is asked for: to select the file of this name, behind so many faults; to read on in the
+-- selected one, which gives so many bytes; or to write a piece of so many bytes, of which it takes so many. A call that
+-- fails gives and takes none.
 pub data Request : Type 0 where
-  to_select : List ℕ → Request
-  to_read : Request
+  to_select : List ℕ → ℕ → Request
+  to_read : ℕ → Request
+  to_write : ℕ → ℕ → Request
+
+-- how many bytes a call gives or takes
+abbrev pub moved : {E : Type 0} → Result ℕ E → ℕ
+moved (Ok n) = n
+moved (Err e) = 0
 
 -- What is seen of a shelf: its files, each a name and its bytes, where it tells them (of two of one name the first is
 -- meant); how many faults it has counted, where a count at the greatest `u64` stays there; what it was asked for so
@@ -34,19 +42,29 @@ pub record IsLater (old new : ShelfView) : Type 0 where
 abbrev pub Faulted : ShelfView → ShelfView → Type 0
 Faulted old new = Rose old.faults new.faults
 
--- what was asked for up to the last time that a file was selected
+-- what was asked for before the last reads that gave some bytes each
+abbrev pub before_reads : List Request → List Request
+before_reads [] = []
+before_reads (to_select name faults ∷ before) = to_select name faults ∷ before
+before_reads (to_read zero ∷ before) = to_read zero ∷ before
+before_reads (to_read (suc n) ∷ before) = before_reads before
+before_reads (to_write handed taken ∷ before) = to_write handed taken ∷ before
+
+-- and before one more read behind these, which may give none
 abbrev pub up_to_select : List Request → List Request
 up_to_select [] = []
-up_to_select (to_select name ∷ before) = to_select name ∷ before
-up_to_select (to_read ∷ before) = up_to_select before
+up_to_select (to_select name faults ∷ before) = to_select name faults ∷ before
+up_to_select (to_read n ∷ before) = before_reads before
+up_to_select (to_write handed taken ∷ before) = to_write handed taken ∷ before
 
--- The file of this name is selected, and no other one; nothing is read before that.
+-- The file of this name is selected, and no other one; nothing is read before that, and nothing behind a read that
+-- gives none.
 abbrev pub AsksFor : ShelfView → ShelfView → List ℕ → Type 0
-AsksFor old new name = up_to_select new.asked ≡ to_select name ∷ old.asked
+AsksFor old new name = up_to_select new.asked ≡ to_select name old.faults ∷ old.asked
 
--- No file is selected.
+-- No file is selected, and nothing is read behind a read that gives none.
 abbrev pub ReadsOn : ShelfView → ShelfView → Type 0
-ReadsOn old new = up_to_select new.asked ≡ up_to_select old.asked
+ReadsOn old new = up_to_select new.asked ≡ before_reads old.asked
 
 -- the content of the first file of that name, where there is one
 abbrev pub content_of : Files → List ℕ → Option (List ℕ)

@@ -4,7 +4,7 @@ ghost use Rattle.std.specs.Io.{ReadsAtMost};
 ghost use Rattle.std.specs.Io.KnownBytes.{ReadConsumes};
 ghost use Rattle.vir_outside.specs.Adapters.{folder_seen};
 ghost use Rattle.vir_outside.specs.Faults.{count_after};
-ghost use Rattle.vir_outside.specs.Shelf.{Faulted, IsLater, Lacks, Selects, to_read, to_select};
+ghost use Rattle.vir_outside.specs.Shelf.{Faulted, IsLater, Lacks, Selects, moved, to_read, to_select};
 
 use crate::trail::Trail;
 use crate::{Failed, Shelf};
@@ -57,7 +57,7 @@ impl<'a, R: Files> Shelf for FolderShelf<'a, R> {
     ghost seen = { λ s. folder_seen s };
 
     fn select(&mut self, name: &str) -> Result<(), Failed>
-        ensures asked { self.new.asked ≡ to_select name.now ∷ self.old.asked }
+        ensures asked { self.new.asked ≡ to_select name.now self.old.faults ∷ self.old.asked }
         ensures selected { OnOk result (IsTrue self.new.selected) }
         ensures content { OnOk result (Selects None name.now None) }
         ensures none_selected { OnErr result (self.new.selected ≡ false) }
@@ -67,7 +67,7 @@ impl<'a, R: Files> Shelf for FolderShelf<'a, R> {
         // Each failure counts once.
         ensures count { self.new.faults ≡ count_after self.old.faults result }
     {
-        self.trail = Trail::selecting(&self.trail, name.as_bytes());
+        self.trail = Trail::selecting(&self.trail, name.as_bytes(), &self.faults);
         self.file = None;
         match fs::open(self.rt, name) {
             Ok(file) => {
@@ -86,7 +86,7 @@ impl<'a, R: Files> Shelf for FolderShelf<'a, R> {
         ensures bound { ReadsAtMost result buf.new }
         ensures bytes { ReadConsumes None None result buf.new }
         ensures selected { IsTrue self.new.selected }
-        ensures asked { self.new.asked ≡ to_read ∷ self.old.asked }
+        ensures asked { self.new.asked ≡ to_read (moved result) ∷ self.old.asked }
         ensures failed { OnErr result (Faulted (folder_seen self.old) (folder_seen self.new)) }
         ensures later { IsLater (folder_seen self.old) (folder_seen self.new) }
 
@@ -94,11 +94,14 @@ impl<'a, R: Files> Shelf for FolderShelf<'a, R> {
         ensures left { ReadConsumes self.old.left self.new.left result buf.new }
         ensures count { self.new.faults ≡ count_after self.old.faults result }
     {
-        self.trail = Trail::reading(&self.trail);
         match &mut self.file {
             Some(file) => match file.read(buf) {
-                Ok(count) => Ok(count),
+                Ok(count) => {
+                    self.trail = Trail::reading(&self.trail, &buf[..count]);
+                    Ok(count)
+                }
                 Err(_) => {
+                    self.trail = Trail::reading(&self.trail, &[]);
                     self.faults = self.faults.saturating_add(1);
                     Err(Failed)
                 }

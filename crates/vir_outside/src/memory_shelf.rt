@@ -5,7 +5,7 @@ ghost use Rattle.std.specs.Io.{ReadsAtMost};
 ghost use Rattle.std.specs.Io.KnownBytes.{Consumes, ReadConsumes};
 ghost use Rattle.std.specs.Option.{option_map};
 ghost use Rattle.vir_outside.specs.Memory.{after_select, after_read, is_next_listed, memory_seen};
-ghost use Rattle.vir_outside.specs.Shelf.{Faulted, IsLater, Lacks, Selects, content_of, to_read, to_select};
+ghost use Rattle.vir_outside.specs.Shelf.{Faulted, IsLater, Lacks, Selects, content_of, moved, to_read, to_select};
 
 use crate::counted::count_call;
 use crate::stored::{StoredFile, copy_front, left_at, place_of};
@@ -118,7 +118,7 @@ impl Shelf for MemoryShelf {
     ghost seen = { λ s. memory_seen s };
 
     fn select(&mut self, name: &str) -> Result<(), Failed>
-        ensures asked { self.new.asked ≡ to_select name.now ∷ self.old.asked }
+        ensures asked { self.new.asked ≡ to_select name.now self.old.faults ∷ self.old.asked }
         ensures selected { OnOk result (IsTrue (is_some self.new.rest)) }
         ensures content { OnOk result (Selects (Some self.old.files) name.now self.new.rest) }
         ensures none_selected { OnErr result (is_some self.new.rest ≡ false) }
@@ -131,7 +131,7 @@ impl Shelf for MemoryShelf {
             ≡ (not (is_next_listed self.old.failing self.old.calls) && is_some (content_of self.old.files name.now)) }
         ensures exactly { self.new ≡ after_select self.old name.now }
     {
-        self.trail = Trail::selecting(&self.trail, name.as_bytes());
+        self.trail = Trail::selecting(&self.trail, name.as_bytes(), &self.faults);
         self.chosen = None;
         if count_call(&self.failing, &mut self.calls, &mut self.faults) {
             return Err(Failed);
@@ -150,19 +150,21 @@ impl Shelf for MemoryShelf {
         ensures bound { ReadsAtMost result buf.new }
         ensures bytes { ReadConsumes self.old.rest self.new.rest result buf.new }
         ensures selected { IsTrue (is_some self.new.rest) }
-        ensures asked { self.new.asked ≡ to_read ∷ self.old.asked }
+        ensures asked { self.new.asked ≡ to_read (moved result) ∷ self.old.asked }
         ensures failed { OnErr result (Faulted (memory_seen self.old) (memory_seen self.new)) }
         ensures later { IsLater (memory_seen self.old) (memory_seen self.new) }
 
         // Only a listed call fails, and any other gives all that is left and fits.
         ensures answer { is_ok result ≡ not (is_next_listed self.old.failing self.old.calls) }
         ensures count { IfOk result (λ n. IfSome self.old.rest (λ bytes. n ≡ min (length buf.old) (length bytes))) }
-        ensures exactly { self.new ≡ after_read self.old (length buf.old) }
+        ensures exactly { self.new ≡ after_read self.old (length buf.old) (moved result) }
     {
-        self.trail = Trail::reading(&self.trail);
         if count_call(&self.failing, &mut self.calls, &mut self.faults) {
+            self.trail = Trail::reading(&self.trail, &[]);
             return Err(Failed);
         }
-        Ok(self.take_front(buf))
+        let count = self.take_front(buf);
+        self.trail = Trail::reading(&self.trail, &buf[..count]);
+        Ok(count)
     }
 }

@@ -5,9 +5,11 @@ ghost use Rattle.std.specs.Io.{WritesAtMost};
 ghost use Rattle.std.specs.Io.KnownBytes.{WriteAppends};
 ghost use Rattle.vir_outside.specs.Faults.{HasCause, one_more};
 ghost use Rattle.vir_outside.specs.Memory.{is_next_listed, sink_seen};
-ghost use Rattle.vir_outside.specs.Sink.{CallsAtMost, TakesSome};
+ghost use Rattle.vir_outside.specs.Shelf.{moved, to_write};
+ghost use Rattle.vir_outside.specs.Sink.{TakesSome};
 
 use crate::counted::count_call;
+use crate::trail::Trail;
 use crate::{Failed, Sink};
 use std::alloc::{AllocError, Global};
 use std::marker::Model;
@@ -23,6 +25,7 @@ pub struct MemorySink {
     calls: u64,
     faults: u64,
     bytes: Vec<u8>,
+    trail: Trail,
 }
 
 impl Model for MemorySink {
@@ -37,6 +40,7 @@ impl Model for MemorySink {
       calls = s.calls;
       faults = s.faults;
       bytes = s.bytes.items;
+      asked = s.trail.requests;
     } };
 
     ghost invariant = { λ s. 1 ≤ s.most };
@@ -46,7 +50,7 @@ impl MemorySink {
     /// An empty sink with no listed call and no fault. A write takes at most `most` bytes.
     pub fn new(alloc: Global, most: usize) -> MemorySink
         requires { 1 ≤ most }
-        ensures { result ≡ record { most = most; failing = []; calls = 0; faults = 0; bytes = [] } }
+        ensures { result ≡ record { most = most; failing = []; calls = 0; faults = 0; bytes = []; asked = [] } }
     {
         MemorySink {
             most,
@@ -54,6 +58,7 @@ impl MemorySink {
             calls: 0,
             faults: 0,
             bytes: Vec::new(alloc),
+            trail: Trail::new(),
         }
     }
 
@@ -74,6 +79,13 @@ impl MemorySink {
         &self.bytes
     }
 
+    /// How many writes failed so far.
+    pub fn faults(&self) -> u64
+        ensures { result ≡ self.now.faults }
+    {
+        self.faults
+    }
+
     /// The number of writes made so far, those that failed too.
     pub fn calls(&self) -> u64
         ensures { result ≡ self.now.calls }
@@ -88,26 +100,35 @@ impl Sink for MemorySink {
     fn write(&mut self, piece: &[u8]) -> Result<usize, Failed>
         ensures bound { WritesAtMost result piece.now }
         ensures some { TakesSome result piece.now }
-        ensures call { CallsAtMost (Some self.old.calls) (Some self.new.calls) 1 }
+        ensures asked { self.new.asked ≡ to_write (length piece.now) (moved result) ∷ self.old.asked }
         ensures bytes { WriteAppends (Some self.old.bytes) (Some self.new.bytes) result piece.now }
         ensures cause { HasCause self.old.faults self.new.faults result }
 
         // A listed call fails. Whether another one wants memory is open.
         ensures listed { IsTrue (is_next_listed self.old.failing self.old.calls) → IsErr result }
         ensures count { IfOk result (λ n. n ≡ min self.old.most (length piece.now)) }
-        ensures ok { IfOk result (λ n. self.new
-            ≡ record self.old { calls = one_more self.old.calls; bytes = self.old.bytes ++ take n piece.now }) }
-        ensures err { OnErr result (self.new
-            ≡ record self.old { calls = one_more self.old.calls; faults = one_more self.old.faults }) }
+        ensures ok { IfOk result (λ n. self.new ≡ record self.old {
+          calls = one_more self.old.calls;
+          bytes = self.old.bytes ++ take n piece.now;
+          asked = to_write (length piece.now) n ∷ self.old.asked;
+        }) }
+        ensures err { OnErr result (self.new ≡ record self.old {
+          calls = one_more self.old.calls;
+          faults = one_more self.old.faults;
+          asked = to_write (length piece.now) 0 ∷ self.old.asked;
+        }) }
     {
         if count_call(&self.failing, &mut self.calls, &mut self.faults) {
+            self.trail = Trail::writing(&self.trail, piece, &[]);
             return Err(Failed);
         }
         let count = piece.len().min(self.most);
         if self.bytes.extend_from_slice(&piece[..count]).is_err() {
             self.faults = self.faults.saturating_add(1);
+            self.trail = Trail::writing(&self.trail, piece, &[]);
             return Err(Failed);
         }
+        self.trail = Trail::writing(&self.trail, piece, &piece[..count]);
         Ok(count)
     }
 }

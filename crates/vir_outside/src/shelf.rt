@@ -2,7 +2,7 @@
 ghost use Rattle.std.specs.Prelude.{◌≡◌, ◌⊎◌, ◌∷◌, false, IsTrue, OnOk, OnErr};
 ghost use Rattle.std.specs.Io.{ReadsAtMost};
 ghost use Rattle.std.specs.Io.KnownBytes.{ReadConsumes};
-ghost use Rattle.vir_outside.specs.Shelf.{Faulted, IsLater, Lacks, Selects, ShelfView, to_read, to_select};
+ghost use Rattle.vir_outside.specs.Shelf.{Faulted, IsLater, Lacks, Selects, ShelfView, moved, to_read, to_select};
 
 use thiserror::Error;
 
@@ -21,7 +21,7 @@ pub trait Shelf {
 
     /// Selects the file of this name, to be read from its front. No file is selected after a failure.
     fn select(&mut self, name: &str) -> Result<(), Failed>
-        ensures asked { (seen self.new).asked ≡ to_select name.now ∷ (seen self.old).asked }
+        ensures asked { (seen self.new).asked ≡ to_select name.now (seen self.old).faults ∷ (seen self.old).asked }
         ensures selected { OnOk result (IsTrue (seen self.new).selected) }
         ensures content { OnOk result (Selects (seen self.old).files name.now (seen self.new).rest) }
         ensures none_selected { OnErr result ((seen self.new).selected ≡ false) }
@@ -36,7 +36,7 @@ pub trait Shelf {
         ensures bound { ReadsAtMost result buf.new }
         ensures bytes { ReadConsumes (seen self.old).rest (seen self.new).rest result buf.new }
         ensures selected { IsTrue (seen self.new).selected }
-        ensures asked { (seen self.new).asked ≡ to_read ∷ (seen self.old).asked }
+        ensures asked { (seen self.new).asked ≡ to_read (moved result) ∷ (seen self.old).asked }
         ensures failed { OnErr result (Faulted (seen self.old) (seen self.new)) }
         ensures later { IsLater (seen self.old) (seen self.new) };
 }

@@ -1,11 +1,13 @@
 // A writer of the standard library, as a sink that tells nothing of content.
-ghost use Rattle.std.specs.Prelude.{◌≡◌, None};
+ghost use Rattle.std.specs.Prelude.{◌≡◌, [], ◌∷◌, None, length};
 ghost use Rattle.std.specs.Io.{WritesAtMost};
 ghost use Rattle.std.specs.Io.KnownBytes.{WriteAppends};
 ghost use Rattle.vir_outside.specs.Adapters.{stream_seen};
 ghost use Rattle.vir_outside.specs.Faults.{HasCause, count_after};
-ghost use Rattle.vir_outside.specs.Sink.{CallsAtMost, TakesSome};
+ghost use Rattle.vir_outside.specs.Shelf.{moved, to_write};
+ghost use Rattle.vir_outside.specs.Sink.{TakesSome};
 
+use crate::trail::Trail;
 use crate::{Failed, Sink};
 use std::io::Write;
 use std::marker::Model;
@@ -18,6 +20,7 @@ use std::marker::Model;
 pub struct StreamSink<W: Write> {
     writer: W,
     faults: u64,
+    trail: Trail,
 }
 
 impl<W: Write> Model for StreamSink<W> {
@@ -25,15 +28,23 @@ impl<W: Write> Model for StreamSink<W> {
 
     ghost Value = { StreamState };
 
-    ghost view = { λ s. record { held = W.contents s.writer; faults = s.faults } };
+    ghost view = { λ s. record {
+      held = W.contents s.writer;
+      faults = s.faults;
+      asked = s.trail.requests;
+    } };
 }
 
 impl<W: Write> StreamSink<W> {
     /// A sink with no fault.
     pub fn new(writer: W) -> StreamSink<W>
-        ensures { result ≡ record { held = W.contents writer; faults = 0 } }
+        ensures { result ≡ record { held = W.contents writer; faults = 0; asked = [] } }
     {
-        StreamSink { writer, faults: 0 }
+        StreamSink {
+            writer,
+            faults: 0,
+            trail: Trail::new(),
+        }
     }
 }
 
@@ -43,7 +54,7 @@ impl<W: Write> Sink for StreamSink<W> {
     fn write(&mut self, piece: &[u8]) -> Result<usize, Failed>
         ensures bound { WritesAtMost result piece.now }
         ensures some { TakesSome result piece.now }
-        ensures call { CallsAtMost None None 1 }
+        ensures asked { self.new.asked ≡ to_write (length piece.now) (moved result) ∷ self.old.asked }
         ensures bytes { WriteAppends None None result piece.now }
         ensures cause { HasCause self.old.faults self.new.faults result }
 
@@ -52,8 +63,12 @@ impl<W: Write> Sink for StreamSink<W> {
         ensures count { self.new.faults ≡ count_after self.old.faults result }
     {
         match self.writer.write(piece) {
-            Ok(count) if count > 0 || piece.is_empty() => Ok(count),
+            Ok(count) if count > 0 || piece.is_empty() => {
+                self.trail = Trail::writing(&self.trail, piece, &piece[..count]);
+                Ok(count)
+            }
             _ => {
+                self.trail = Trail::writing(&self.trail, piece, &[]);
                 self.faults = self.faults.saturating_add(1);
                 Err(Failed)
             }

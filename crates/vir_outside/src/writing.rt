@@ -1,6 +1,6 @@
 // A whole text, written to a sink.
 ghost use Rattle.std.specs.Prelude.{◌≡◌, [], length};
-ghost use Rattle.vir_outside.specs.Sink.{CallsAtMost, Writes};
+ghost use Rattle.vir_outside.specs.Sink.{HandsAll, Writes};
 
 use crate::{Failed, Sink};
 
@@ -10,9 +10,7 @@ use crate::{Failed, Sink};
 /// After a failed write no other is made, and what was written before it stays.
 pub fn write_whole<W: Sink>(sink: &mut W, text: &[u8]) -> Result<(), Failed>
     ensures writes { Writes (W.seen sink.old) (W.seen sink.new) text.now result }
-    // A call for each byte at the most, also at a sink that takes one byte a call: so none is made
-    // with an empty piece.
-    ensures calls { CallsAtMost (W.seen sink.old).calls (W.seen sink.new).calls (length text.now) }
+    ensures hands { HandsAll result (W.seen sink.old).asked (W.seen sink.new).asked (length text.now) }
     ensures no_text { text.now ≡ [] → sink.new ≡ sink.old }
 {
     let mut left = text;

@@ -31,7 +31,7 @@ use Rattle.vir_words.specs.Command.{Command, check, on_rule_and_profile}
 
 -- ---- ends of courses
 -- a course behind a value ends as the next one
-then_end : {A B : Type 0} (first : Course A) (next : A → Course B) (a : A) (end : Result B Stop) → first.end ≡ Ok a
+pub then_end : {A B : Type 0} (first : Course A) (next : A → Course B) (a : A) (end : Result B Stop) → first.end ≡ Ok a
     → (next a).end ≡ end → (and_then first next).end ≡ end
 then_end {A} first next a end is goes =
     ap (λ (e : Result A Stop). (go_on first.steps e next).end) is ∙ goes
@@ -52,16 +52,17 @@ counting_stops unserved runs wording lacking is =
     ap (λ (o : Option Leaf). (counting_course o runs wording).end) is
 
 -- ---- what is due where no count rose
-abbrev NoFault : FaultCounts → FaultCounts → Type 0
+abbrev pub NoFault : FaultCounts → FaultCounts → Type 0
 NoFault before after = Rose before.shelf after.shelf ⊎ Rose before.out after.out → ⊥
 
 -- a wording that has no denial
-due_of_text : (wording : Wording) (status : ℕ) (before after : FaultCounts)
+pub due_of_text : (wording : Wording) (status : ℕ) (before after : FaultCounts)
     → ((told : List ℕ) → IsWorded wording (denies told) → ⊥) → NoFault before after
     → IsDue (Ok wording) status before after → (status ≡ 0) ⊎ (status ≡ 7)
-due_of_text wording status before after never none (inl rose) = absurd (none rose)
-due_of_text wording status before after never none (inr (inr is)) = inr is
-due_of_text wording status before after never none (inr (inl s)) = by s.reply s.worded s.status_is
+due_of_text wording status before after never none (inr (inl (is, rose))) = absurd (none (inl rose))
+due_of_text wording status before after never none (inr (inr (is, rose))) = absurd (none (inr rose))
+due_of_text wording status before after never none (inl (inr is)) = inr is
+due_of_text wording status before after never none (inl (inl s)) = by s.reply s.worded s.status_is
   where
     by : (reply : Reply) → IsWorded wording reply → status ≡ reply_status reply → (status ≡ 0) ⊎ (status ≡ 7)
     by (prints told) worded is = inl is
@@ -69,8 +70,8 @@ due_of_text wording status before after never none (inr (inl s)) = by s.reply s.
 
 due_of_stop : (reason : Stop) (status : ℕ) (before after : FaultCounts) → NoFault before after
     → IsDue (Err reason) status before after → (status ≡ stop_status reason) ⊎ (status ≡ 7)
-due_of_stop reason status before after none (inl rose) = absurd (none (inl rose))
-due_of_stop reason status before after none (inr due) = due
+due_of_stop reason status before after none (inr (is, rose)) = absurd (none (inl rose))
+due_of_stop reason status before after none (inl due) = due
 
 -- of a command whose course ends with a reason to stop
 pub stop_due : (kinds : List (List LeafKind)) (all : Files) (command : Command) (status : ℕ) (reason : Stop)
@@ -158,9 +159,10 @@ IsJudged cert status = ((status ≡ 0) × IsValid cert) ⊎ (((status ≡ 1) × 
 
 judged : (cert : Cert) (status : ℕ) (before after : FaultCounts) → NoFault before after
     → IsDue (Ok (verdict_on cert)) status before after → IsJudged cert status
-judged cert status before after none (inl rose) = absurd (none rose)
-judged cert status before after none (inr (inr is)) = inr (inr is)
-judged cert status before after none (inr (inl s)) = by s.reply s.worded s.status_is
+judged cert status before after none (inr (inl (is, rose))) = absurd (none (inl rose))
+judged cert status before after none (inr (inr (is, rose))) = absurd (none (inr rose))
+judged cert status before after none (inl (inr is)) = inr (inr is)
+judged cert status before after none (inl (inl s)) = by s.reply s.worded s.status_is
   where
     by : (reply : Reply) → IsWorded (verdict_on cert) reply → status ≡ reply_status reply → IsJudged cert status
     by (prints told) accepted is = inl (is, accepted.proof.valid)

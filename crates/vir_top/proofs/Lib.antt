@@ -4,3 +4,5 @@ pub mod StatusLemmas
 pub mod HeadlineLemmas
 pub mod ServedLemmas
 pub mod DueLemmas
+pub mod PairLemmas
+pub mod BatchDueLemmas

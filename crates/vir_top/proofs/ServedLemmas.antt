@@ -22,7 +22,8 @@ use Rattle.vir_files.specs.Files.{Kind, accept, certificates, profiles, read_as,
 use Rattle.vir_files.specs.Readings.{RuleProfile, certificate_at, profile_at, rule_and_profile_of}
 use Rattle.vir_files.specs.Readings.{rule_and_two_profiles_of, rule_at, rule_profile, rule_two_profiles}
 use Rattle.vir_machine.specs.Uses.{first_unserved, or_else}
-use Rattle.vir_outside.specs.Shelf.{Faulted, ShelfView}
+use Rattle.vir_files.specs.Performs.{RoseAtLast}
+use Rattle.vir_outside.specs.Shelf.{ShelfView}
 use Rattle.vir_outside.specs.Sink.{SinkView}
 use Rattle.vir_profile.specs.SocFiles.{File}
 use Rattle.vir_term.specs.declared.leaf.Leaf.{Leaf}
@@ -227,6 +228,6 @@ never_eight listed words seen shelf left before after status out old new err err
     by : (w : Option Command) → AnswersWords listed w seen shelf left before after calls.answer → ⊥
     by None u = usage u.reason
     by (Some command) p =
-        let f = subst (λ (a : Result Answer Stop). Follows Tells (Faulted (seen shelf) (seen left))
+        let f = subst (λ (a : Result Answer Stop). Follows Tells (RoseAtLast (seen shelf) (seen left))
         (command_course (served_by before) command p.contents) p.made a) named.is p.follows in
         command_never (served_by before) served command p.contents named.text f.end_is

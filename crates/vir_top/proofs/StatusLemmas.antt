@@ -12,14 +12,14 @@ use Rattle.vir_course.specs.declared.answer.Answer.TheVariants as answer
 use Rattle.vir_course.specs.declared.stop.Stop.{Stop}
 use Rattle.vir_course.specs.declared.stop.Stop.TheVariants as stop
 use Rattle.vir_files.specs.Contents.{AreContents, Contents}
-use Rattle.vir_files.specs.Performs.{Performs}
+use Rattle.vir_files.specs.Performs.{Performs, RoseAtLast}
 use Rattle.vir_outside.specs.Sink.{SinkView}
-use Rattle.vir_outside.specs.Shelf.{Faulted, Files, ShelfView}
+use Rattle.vir_outside.specs.Shelf.{Files, ShelfView}
 use Rattle.vir_top.specs.Calls.{AnswersWords, Calls, IsUsage}
 use Rattle.vir_words.specs.Command.{Command}
 use Rattle.vir_top.specs.CommandCourses.{command_course}
 use Rattle.vir_top.specs.Delivery.{Delivers, stop_status}
-use Rattle.vir_top.specs.Printed.{FaultCounts, IsDue, IsUsageDue, Printed, faults_of}
+use Rattle.vir_top.specs.Printed.{FaultCounts, IsDue, IsUsageDue, Printed, faults_before, faults_of}
 use Rattle.vir_top.specs.Printed.{told_contents}
 
 -- no reason to stop has status 0
@@ -61,7 +61,7 @@ module _ {S O E : Type 0} (course : Contents → Course Wording) (seen : S → S
   DeliversAll given = Delivers given status out old new err err_old err_new
 
   abbrev read_rose : Type 0
-  read_rose = Faulted (seen shelf) (seen left)
+  read_rose = RoseAtLast (seen shelf) (seen left)
 
   abbrev PerformsIt : Result Answer Stop → Type 0
   PerformsIt given = Performs course Tells seen shelf left before after given
@@ -84,7 +84,7 @@ module _ {S O E : Type 0} (course : Contents → Course Wording) (seen : S → S
 
   -- ---- what is due
   abbrev before_it : FaultCounts
-  before_it = faults_of (seen shelf) (out old)
+  before_it = faults_before (seen shelf) (seen left) (out old)
 
   abbrev after_it : FaultCounts
   after_it = faults_of (seen left) (out new)
@@ -92,22 +92,22 @@ module _ {S O E : Type 0} (course : Contents → Course Wording) (seen : S → S
   due_told : (given : Answer) (wording : Wording) → IsWorded wording (reply_of given) → DeliversAll (Ok given)
       → IsDue (Ok wording) status before_it after_it
   due_told given wording is (inl w) =
-      inr (inl (record { reply = reply_of given; worded = is; status_is = w.status_is }))
-  due_told given wording is (inr b) = inl (inr b.failed)
+      inl (inl (record { reply = reply_of given; worded = is; status_is = w.status_is }))
+  due_told given wording is (inr b) = inr (inr (b.status_is, b.failed))
 
   -- of an end that steps lead to
   due_stop : (end : Result Wording Stop) (reason : Stop) → end ≡ Err reason → DeliversAll (Err reason)
       → IsDue end status before_it after_it
   due_stop (Ok wording) reason e d = absurd cc
-  due_stop (Err other) reason e d = let same : reason ≡ other = cc in inr (inl (d.status_is ∙ ap stop_status same))
+  due_stop (Err other) reason e d = let same : reason ≡ other = cc in inl (inl (d.status_is ∙ ap stop_status same))
 
   due_memory : (end : Result Wording Stop) → status ≡ 7 → IsDue end status before_it after_it
-  due_memory (Ok wording) is = inr (inr is)
-  due_memory (Err reason) is = inr (inr is)
+  due_memory (Ok wording) is = inl (inr is)
+  due_memory (Err reason) is = inl (inr is)
 
-  due_rose : (end : Result Wording Stop) → read_rose → IsDue end status before_it after_it
-  due_rose (Ok wording) rose = inl (inl rose)
-  due_rose (Err reason) rose = inl rose
+  due_rose : (end : Result Wording Stop) → status ≡ 5 → read_rose → IsDue end status before_it after_it
+  due_rose (Ok wording) is rose = inr (inl (is, rose))
+  due_rose (Err reason) is rose = inr (is, rose)
 
   due_ok : (end : Result Wording Stop) (wording : Wording) (given : Answer) → end ≡ Ok wording
       → IsWorded wording (reply_of given) → DeliversAll (Ok given) → IsDue end status before_it after_it
@@ -118,7 +118,7 @@ module _ {S O E : Type 0} (course : Contents → Course Wording) (seen : S → S
       → DeliversAll given → IsDue c.end status before_it after_it
   due c made (Ok given) f d = due_ok c.end f.value given f.end_is f.sees d
   due c made (Err stop.Usage) f d = absurd f
-  due c made (Err stop.ReadFault) (inl (rose, begins)) d = due_rose c.end rose
+  due c made (Err stop.ReadFault) (inl (rose, begins)) d = due_rose c.end d.status_is rose
   due c made (Err stop.ReadFault) (inr s) d = due_stop c.end stop.ReadFault s.end_is d
   due c made (Err (stop.TextRefused fault)) f d = due_stop c.end (stop.TextRefused fault) f.end_is d
   due c made (Err (stop.ProfileRefused fault)) f d = due_stop c.end (stop.ProfileRefused fault) f.end_is d
@@ -178,7 +178,7 @@ module _ {S O E : Type 0} (listed : Bool) (words : Option Command) (seen : S →
 
     pub call_due : (all : Files) → (seen shelf).files ≡ Some all
         → IsDue (command_course (served_by before) command (told_contents all)).end status
-        (faults_of (seen shelf) (out old)) (faults_of (seen left) (out new))
+        (faults_before (seen shelf) (seen left) (out old)) (faults_of (seen left) (out new))
     call_due all is =
         due_of_told (command_course (served_by before) command) seen shelf left before after status out old new err
         err_old err_new all calls.answer is performs calls.delivers

@@ -6,7 +6,7 @@ use Rattle.vir_course.specs.declared.answer.Answer.{Answer}
 use Rattle.vir_course.specs.declared.stop.Stop.{Stop}
 use Rattle.vir_course.specs.declared.stop.Stop.TheVariants as stop
 use Rattle.vir_outside.specs.Faults.{Rose}
-use Rattle.vir_outside.specs.Sink.{AppendsPrefix, SinkView}
+use Rattle.vir_outside.specs.Sink.{AppendsPrefix, HandsSome, SinkView}
 use Rattle.vir_read.specs.Kinds as text_kinds
 use Rattle.vir_soc.specs.Kinds as profile_kinds
 
@@ -46,16 +46,19 @@ abbrev pub reply_status : Reply → ℕ
 reply_status (prints bytes) = 0
 reply_status (denies bytes) = 1
 
--- The line of a reason to stop is appended whole, or the count rose and a prefix of it is. The count never falls.
+-- The line of a reason to stop is appended whole, or the count rose and a prefix of it is. The count never falls, and
+-- no write is handed an empty piece.
 pub record AppendsLine (old new : SinkView) (reason : Stop) : Type 0 where
   pub later : old.faults ≤ new.faults
+  pub handed : HandsSome old.asked new.asked
   pub appended : Appends old.written new.written (stop_line reason)
       ⊎ (Rose old.faults new.faults × AppendsPrefix old.written new.written (stop_line reason))
 
--- The reply is written whole, and nothing is told to the other sink.
+-- The reply is written whole, and nothing is told to the other sink. An empty reply makes no write.
 pub record Written (reply : Reply) (status : ℕ) (old new : SinkView) (untold : Type 0) : Type 0 where
   pub status_is : status ≡ reply_status reply
   pub later : old.faults ≤ new.faults
+  pub handed : HandsSome old.asked new.asked
   pub whole : Appends old.written new.written (reply_bytes reply)
   pub no_line : untold
 
@@ -63,6 +66,7 @@ pub record Written (reply : Reply) (status : ℕ) (old new : SinkView) (untold :
 pub record Broken (reply : Reply) (status : ℕ) (old new err_old err_new : SinkView) : Type 0 where
   pub status_is : status ≡ 6
   pub later : old.faults ≤ new.faults
+  pub handed : HandsSome old.asked new.asked
   pub failed : Rose old.faults new.faults
   pub prefix : AppendsPrefix old.written new.written (reply_bytes reply)
   pub line : AppendsLine err_old err_new stop.WriteFault

@@ -1,7 +1,8 @@
 -- What follows of a call with told files, status by status.
-use Rattle.std.specs.Prelude.{◌≡◌, ◌⊎◌, Bool, IsTrue, ℕ, List, None, Some, Result, Ok, Err}
+use Rattle.std.specs.Prelude.{◌≡◌, ◌⊎◌, Bool, IsTrue, ℕ, List, [], ◌∷◌, None, Some, IsSome, Result, Ok, Err}
 use Rattle.std.specs.declared.option.Option.{Option}
 use Rattle.std.specs.Io.KnownBytes.{Appends}
+use Rattle.vir_batch.specs.Kinds.{manifests}
 use Rattle.vir_cert.specs.Certs.{Cert}
 use Rattle.vir_course.specs.Courses.{Course}
 use Rattle.vir_course.specs.Wordings.{IsWorded, Reply, Wording, prints}
@@ -9,6 +10,7 @@ use Rattle.vir_course.specs.declared.stop.Stop.{Stop}
 use Rattle.vir_course.specs.declared.stop.Stop.TheVariants.{ProfileRefused, TextRefused}
 use Rattle.vir_files.specs.Contents.{AreContents, Contents}
 use Rattle.vir_files.specs.Files.{certificates, judge, profiles, rules}
+use Rattle.vir_files.specs.Performs.{begun}
 use Rattle.vir_machine.specs.Uses.{first_unserved}
 use Rattle.vir_outside.specs.Faults.{Rose}
 use Rattle.vir_outside.specs.Shelf.{Files, ShelfView, content_of}
@@ -50,6 +52,19 @@ RefusesProfile all name = (fault : SocFault) × (judge profiles (content_of all 
 -- There is no file of this name.
 abbrev pub IsMissing : Files → List ℕ → Type 0
 IsMissing all name = content_of all name ≡ None
+
+-- The file is a manifest of these names.
+abbrev pub SaysManifest : Files → List ℕ → List (List ℕ) → Type 0
+SaysManifest all name names = judge manifests (content_of all name) ≡ Ok names
+
+-- The manifest has a fault.
+abbrev pub RefusesManifest : Files → List ℕ → Type 0
+RefusesManifest all name = (fault : TextFault) × (judge manifests (content_of all name) ≡ Err (TextRefused fault))
+
+-- There is a file of each of these names.
+abbrev pub AreThere : Files → List (List ℕ) → Type 0
+AreThere all [] = Unit {0}
+AreThere all (name ∷ names) = IsSome (content_of all name) × AreThere all names
 
 -- The file is a certificate with a valid derivation of what it claims.
 pub record HasValidCert (all : Files) (name : List ℕ) : Type 0 where
@@ -108,13 +123,18 @@ pub record FaultCounts : Type 0 where
 abbrev pub faults_of : ShelfView → SinkView → FaultCounts
 faults_of shelf out = record { shelf = shelf.faults; out = out.faults }
 
--- The status that the end of a course asks for comes, or memory was wanting, or a count of faults rose: that of the
--- shelf, or, where there was a text to write, that of the output.
+-- those that there were before the last file was selected, and before the output was written
+abbrev pub faults_before : ShelfView → ShelfView → SinkView → FaultCounts
+faults_before old new out = record { shelf = begun old new; out = out.faults }
+
+-- The status that the end of a course asks for comes, or memory was wanting; or it is 5 and the shelf's count rose at
+-- the last file, or, where there was a text to write, 6 and the output's count rose. So none depends on another sink.
 abbrev pub IsDue : Result Wording Stop → ℕ → FaultCounts → FaultCounts → Type 0
 IsDue (Ok wording) status before after =
-    (Rose before.shelf after.shelf ⊎ Rose before.out after.out) ⊎ (HasStatus wording status ⊎ (status ≡ 7))
+    (HasStatus wording status ⊎ (status ≡ 7))
+    ⊎ (((status ≡ 5) × Rose before.shelf after.shelf) ⊎ ((status ≡ 6) × Rose before.out after.out))
 IsDue (Err reason) status before after =
-    Rose before.shelf after.shelf ⊎ ((status ≡ stop_status reason) ⊎ (status ≡ 7))
+    ((status ≡ stop_status reason) ⊎ (status ≡ 7)) ⊎ ((status ≡ 5) × Rose before.shelf after.shelf)
 
 -- The status is due of a command with these files, on a bench that serves these kinds.
 abbrev pub IsDueOfCommand : List (List LeafKind) → Files → Command → ℕ → FaultCounts → FaultCounts → Type 0

@@ -17,8 +17,9 @@ mod works;
 
 pub use delivery::deliver;
 pub use laws::{
-    accepted_files_are_counted, certificates_are_judged, missing_files_are_told,
-    refused_profiles_are_told, refused_rules_are_told, unserved_modules_are_told,
+    accepted_files_are_counted, batches_are_counted, cases_are_judged, certificates_are_judged,
+    missing_files_are_told, refused_profiles_are_told, refused_rules_are_told,
+    unserved_modules_are_told,
 };
 pub use status::{OUT_OF_MEMORY, USAGE_FAULT};
 pub use top::virage;

@@ -7,7 +7,7 @@ ghost use Rattle.vir_words.specs.Command.{Command, are_listed, command_in, repor
 ghost use Rattle.vir_top.specs.CommandCourses.{command_course};
 ghost use Rattle.vir_top.specs.Delivery.{Delivers};
 ghost use Rattle.vir_top.specs.Headline.{ReportPrinted};
-ghost use Rattle.vir_top.specs.Printed.{IsDueOfCommand, IsUsageDue, Printed, faults_of};
+ghost use Rattle.vir_top.specs.Printed.{IsDueOfCommand, IsUsageDue, Printed, faults_before, faults_of};
 
 use crate::answering::answer;
 use crate::delivery::deliver;
@@ -33,11 +33,12 @@ pub fn virage<S: Shelf, O: Sink, E: Sink>(
     ensures printed { (command : Command) → command_in words.now ≡ Some command → result ≡ 0
         → Printed (command_course (served_by (seen kinds made bench.old)) command) (S.seen shelf.old).files
         (O.seen out.old).written (O.seen out.new).written }
-    // Of told files: the status is the one that the course asks for, 0 for a text and 1 for a denial that is so; or a
-    // count rose, or memory was wanting.
+    // Of told files: the status is the one that the course asks for, 0 for a text and 1 for a denial that is so; or 7;
+    // or 5 where the shelf's count rose at the last file; or 6 where the output's did. None depends on `err`.
     ensures due { (command : Command) (all : Files) → command_in words.now ≡ Some command
         → (S.seen shelf.old).files ≡ Some all → IsDueOfCommand (served_by (seen kinds made bench.old)) all command
-        result (faults_of (S.seen shelf.old) (O.seen out.old)) (faults_of (S.seen shelf.new) (O.seen out.new)) }
+        result (faults_before (S.seen shelf.old) (S.seen shelf.new) (O.seen out.old))
+        (faults_of (S.seen shelf.new) (O.seen out.new)) }
     // Words that are no command.
     ensures usage { command_in words.now ≡ None → IsUsageDue (are_listed words.now) result }
     // The whole: there is an answer, that of the course that the words, the contents of the files and the bench come

@@ -7,7 +7,7 @@ use Rattle.vir_top.proofs.ServedLemmas.{never_eight}
 use Rattle.vir_top.specs.Calls.{AnswersWords, Calls}
 use Rattle.vir_top.specs.CommandCourses.{command_course}
 use Rattle.vir_top.specs.Delivery.{Delivers}
-use Rattle.vir_top.specs.Printed.{IsDueOfCommand, Printed, faults_of}
+use Rattle.vir_top.specs.Printed.{IsDueOfCommand, Printed, faults_before, faults_of}
 use Rattle.vir_words.specs.Command.{are_listed, command_in}
 use Rattle.vir_bench.specs.FullBench.{full_bench}
 use Rattle.vir_bench.proofs.FullBenchLemmas.{all_full, is_full, pushed}
@@ -104,6 +104,7 @@ returns-clause-printed g c = λ command asks is.
 pub returns-clause-due : goal.returns-clause-due
 returns-clause-due g c = λ command all asks told.
     subst (λ (bench : BenchView). IsDueOfCommand (served_by bench) all command c.virage.result
-    (faults_of (g.S.Shelf.seen c.args.shelf.now) (g.O.Sink.seen c.args.out.now))
+    (faults_before (g.S.Shelf.seen c.args.shelf.now) (g.S.Shelf.seen c.virage.new.shelf)
+    (g.O.Sink.seen c.args.out.now))
     (faults_of (g.S.Shelf.seen c.virage.new.shelf) (g.O.Sink.seen c.virage.new.out))) (full g c)
     (c.virage.ensures.due command all asks told)

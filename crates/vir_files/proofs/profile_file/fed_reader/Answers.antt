@@ -7,8 +7,8 @@ use Rattle.vir_soc.specs.Reader.Answers.{Shows}
 use Rattle.vir_soc.specs.Soc.{settled}
 use Rattle.vir_soc.specs.declared.soc_reader.TheConstants.{PROFILE_SIZE_LIMIT}
 use Rattle.vir_soc.specs.Reader.Stands.{stands}
-use Rattle.vir_outside.proofs.Rests.{consumes_more}
-use Rattle.vir_outside.specs.Shelf.{up_to_select}
+use Rattle.vir_outside.proofs.Rests.{before_reads-some, consumes_more}
+use Rattle.vir_outside.specs.Shelf.{before_reads}
 use Rattle.vir_files.proofs.FedLemmas.{all_taken, length-piece, none_taken, settled-nothing, settled-within}
 use Rattle.vir_files.proofs.FedLemmas.{shown_of_rest, starts_taken, still_taken, takes_fed, takes_piece}
 use Rattle.vir_files.proofs.PerformLemmas.{later_same, later_then}
@@ -86,8 +86,9 @@ loop-taken-preserved g c =
     ∙ after.1 in
     let size : length (so_far.fed ++ take n buf) ≤ PROFILE_SIZE_LIMIT = settled-within (so_far.fed ++ take n buf) fine
     in
+    let some : 0 < n = grind (arith, nat_tests) in
     record {
-      reads_on = ap up_to_select c.in-Ok.ensures.asked ∙ so_far.reads_on;
+      reads_on = ap before_reads c.in-Ok.ensures.asked ∙ before_reads-some n _ some ∙ so_far.reads_on;
       is_selected = c.in-Ok.ensures.selected;
       within = omega arith;
       later = later_then _ _ _ so_far.later c.in-Ok.ensures.later;

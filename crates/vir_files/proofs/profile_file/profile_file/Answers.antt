@@ -4,7 +4,7 @@ use Rattle.vir_files.proofs.FedLemmas.{SeesFile, reads_rest, stops_taken, told_t
 use Rattle.vir_files.specs.Files.{profiles}
 use Rattle.vir_files.proofs.PerformLemmas.{later_then, reads_fault, takes_later}
 use Rattle.vir_files.proofs.profile_file.profile_file.Goals as goal
-use Rattle.vir_outside.specs.Shelf.{TakesAtMost, told_content, up_to_select}
+use Rattle.vir_outside.specs.Shelf.{TakesAtMost, before_reads, told_content, up_to_select}
 use Rattle.vir_soc.specs.declared.soc_reader.TheConstants.{PROFILE_SIZE_LIMIT}
 
 pub returns-in-Err-clause-reads : goal.returns-in-Err-clause-reads
@@ -33,7 +33,7 @@ returns-in-Ok-clause-reads g c =
     ) in
     reads_rest _ old mid new _ c.select.ensures.later c.in-Ok.ensures.content
     (record {
-      asked = c.selected_profile.ensures.reads_on ∙ ap up_to_select c.select.ensures.asked;
+      asked = c.selected_profile.ensures.reads_on ∙ ap before_reads c.select.ensures.asked;
       later = later;
       left = record {
         takes = takes_later old new c.args.name.now (PROFILE_SIZE_LIMIT + 1) later takes;

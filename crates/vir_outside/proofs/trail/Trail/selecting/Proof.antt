@@ -18,7 +18,7 @@ use types.Kit.{‵, raw, ◌$◌, ◌∵◌, !, qed, move, suffices, done}
 use types.Run.{no_more, returns, enter}
 use types.Part.{agg}
 use types.ByLocal.{alloc_all, pass_all, free_all, look_at, sets}
-use denote.Builtin.{u8}
+use denote.Builtin.{u8, u64}
 use denote.Exit.{yes}
 use denote.RattleType.{owns}
 use denote.Ref.{shr_vals, shr_Tells}
@@ -41,52 +41,66 @@ use Rattle.vir_outside.specs.Shelf.{to_select}
 abbrev stayed : Stays (f.ended).signature.params (f.ended).kept
 stayed = (
   stay_none_ref (0 ∷ []) tt (plain (λ _. trail.the_row)) yes,
-  (stay_none_slice (1 ∷ []) tt (plain (λ _. u8)) yes, tt),
+  (stay_none_slice (1 ∷ []) tt (plain (λ _. u8)) yes, (stay_none_ref (2 ∷ []) tt (plain (λ _. u64)) yes, tt)),
 )
 
 module _ {M : Type 1} {𝓤 : Ura M} (𝓛 : Logic 𝓤) (mem : Memory → SProp 𝓤) (run : Routine → Fun 𝓤) (C : Calls 𝓤 𝓛.H)
     (Λ : Loops 𝓤 𝓛.H) where
   open 𝓛 use {H}
 
-  module _ (κs : Lfts 2) (qs : Shares 2) (a : Args f.signature κs) where
+  module _ (κs : Lfts 3) (qs : Shares 3) (a : Args f.signature κs) where
     abbrev before : Val
     before = vptr a.0.ref_ptr.0 a.0.ref_ptr.1
 
     abbrev name : Val
     name = slice_val a.1.0.ref_ptr (length a.1.0.now)
 
+    abbrev faults : Val
+    faults = vptr a.1.1.0.ref_ptr.0 a.1.1.0.ref_ptr.1
+
     abbrev bound : (walk_of 𝓛 f.ended stayed (f.clauses 𝓛 mem run)).Ghost
-    bound = ((κs, qs, tt, a, (before ∷ [], (name ∷ [], tt))), tt)
+    bound = ((κs, qs, tt, a, (before ∷ [], (name ∷ [], (faults ∷ [], tt)))), tt)
 
     abbrev passed : Fml
-    passed = owns (types_at f.signature.params κs) a (before ∷ [], (name ∷ [], tt))
+    passed = owns (types_at f.signature.params κs) a (before ∷ [], (name ∷ [], (faults ∷ [], tt)))
 
-    walk : length a.1.0.now < 2 ^ 64 → ent 𝓤 (on_entry 𝓛 f.signature κs qs a (before ∷ [], (name ∷ [], tt)))
-        (WpFn 𝓤 H C Λ code.function (before ∷ name ∷ []) ((walk_of 𝓛 f.ended stayed (f.clauses 𝓛 mem run)).post bound))
+    walk : length a.1.0.now < 2 ^ 64
+        → ent 𝓤 (on_entry 𝓛 f.signature κs qs a (before ∷ [], (name ∷ [], (faults ∷ [], tt))))
+        (WpFn 𝓤 H C Λ code.function (before ∷ name ∷ faults ∷ [])
+        ((walk_of 𝓛 f.ended stayed (f.clauses 𝓛 mem run)).post bound))
     walk fits =
-        qed 𝓛 (raw (alive 𝓛 f.signature κs qs) ∷ ‵ passed ∷ []) ∵ enter ! C Λ code.function (before ∷ name ∷ []) _ $
-        alloc_all ! (λ l. pass_all ! refl ((tt, tt), ((tt, (tt, (record { fits = fits }, tt))), tt)) $
+        qed 𝓛 (raw (alive 𝓛 f.signature κs qs) ∷ ‵ passed ∷ []) ∵
+        enter ! C Λ code.function (before ∷ name ∷ faults ∷ []) _ $
+        alloc_all ! (λ l. pass_all ! refl ((tt, tt), ((tt, (tt, (record { fits = fits }, tt))), ((tt, tt), tt))) $
         sets ! (agg ! (no_more !)) refl (tt, tt) $
         returns ! (look_at ! 0 refl) $ free_all ! refl $
         suffices ! _ (ends_at 𝓛 f.ended stayed (f.clauses 𝓛 mem run) bound (vstruct vnil)
-        (record { requests = to_select a.1.0.now ∷ a.0.now.requests }) (tt, (tt, tt)) (tt, (tt, tt))) $
-        says ! refl $ pure_i ! (trail.the_row.own_val (record { requests = to_select a.1.0.now ∷ a.0.now.requests })
+        (record { requests = to_select a.1.0.now a.1.1.0.now ∷ a.0.now.requests })
+        (tt, (tt, (tt, tt))) (tt, (tt, (tt, tt)))) $
+        says ! refl $ pure_i ! (trail.the_row.own_val
+        (record { requests = to_select a.1.0.now a.1.1.0.now ∷ a.0.now.requests })
         (vstruct vnil ∷ [])) ((λ vss. (tt, tt)), tt) ((tt, (refl, tt)), tt) $
         move ! (1 ∷ 2 ∷ 0 ∷ []) $ done !)
 
   walks : Walks 𝓛 f.ended stayed (WpFn 𝓤 H C Λ code.function) (f.clauses 𝓛 mem run)
   walks =
       walked 𝓛 f.ended stayed (f.clauses 𝓛 mem run) (WpFn 𝓤 H C Λ code.function)
-      (λ κs. (shr_vals, (shr_slice_vals, tt)))
-      (λ κs. (shr_Tells (named 0) κs.0 trail.the_row, (shr_slice_Tells (named 1) κs.1.0 u8, tt)))
+      (λ κs. (shr_vals, (shr_slice_vals, (shr_vals, tt))))
+      (λ κs. (
+        shr_Tells (named 0) κs.0 trail.the_row,
+        (shr_slice_Tells (named 1) κs.1.0 u8, (shr_Tells (named 2) κs.1.1.0 u64, tt)),
+      ))
       (λ κs qs bounds a g are. via 𝓤 _ (fst∗ 𝓤 _ (emp 𝓤)) (walk κs qs a are.1.0.0.1.0))
 
 meets : {M : Type 1} {𝓤 : Ura M} (𝓛 : Logic 𝓤) (mem : Memory → SProp 𝓤) (run : Routine → Fun 𝓤) (𝓣 : Tables 𝓤 𝓛.H)
     → Meets 𝓛 f.signature (WpFn 𝓤 𝓛.H 𝓣.C 𝓣.Λ code.function) (f.spec 𝓛 mem run)
 meets {𝓤 = 𝓤} 𝓛 mem run 𝓣 =
     walk_Meets 𝓛 f.ended stayed (
-      Goes-none_ref 𝓛 2 (0 ∷ []) tt (plain (λ _. trail.the_row)) yes,
-      (Goes-none_slice 𝓛 2 (1 ∷ []) tt (plain (λ _. u8)) yes, tt),
+      Goes-none_ref 𝓛 3 (0 ∷ []) tt (plain (λ _. trail.the_row)) yes,
+      (
+        Goes-none_slice 𝓛 3 (1 ∷ []) tt (plain (λ _. u8)) yes,
+        (Goes-none_ref 𝓛 3 (2 ∷ []) tt (plain (λ _. u64)) yes, tt),
+      ),
     ) (f.clauses 𝓛 mem run)
     (WpFn 𝓤 𝓛.H 𝓣.C 𝓣.Λ code.function) (WpFn-mono 𝓤 𝓛.H 𝓛.laws 𝓣 code.function) (walks 𝓛 mem run 𝓣.C 𝓣.Λ)
 
