@@ -1,6 +1,6 @@
 -- The command line.
 use Rattle.std.specs.Prelude.{ℕ, ◌≡◌, ◌≢◌, ◌≤◌, Bool, true, false, List, [], ◌∷◌, length, None, Some, codes, map}
-use Rattle.std.specs.Prelude.{◌||◌, string_bytes, not, if◌then◌else◌}
+use Rattle.std.specs.Prelude.{◌&&◌, ◌||◌, string_bytes, not, is_some, if◌then◌else◌}
 use Rattle.std.specs.List.{AllByRecursion}
 use Rattle.std.specs.Str.{bytes_eq}
 use Rattle.std.specs.declared.option.Option.{Option}
@@ -190,14 +190,30 @@ command_of (name ∷ first ∷ second ∷ third ∷ fourth ∷ fifth ∷ sixth �
 abbrev pub command_in : {Z : Type 0} → List (String Z) → Option Command
 command_in words = command_of (map string_bytes words)
 
--- whether a command of this name has words that are kept in lists; no other takes memory to be read
-abbrev pub is_listed : List ℕ → Bool
-is_listed name = bytes_eq name (codes "synth") || bytes_eq name (codes "position")
+-- ---- words that take memory to be read
 
--- the same of words, the first of which is the name
+-- whether a word is a size that a search may have
+abbrev pub is_size : List ℕ → Bool
+is_size word = is_some (number_within 1 15 word)
+
+-- whether a word is the name of an eliminator
+abbrev pub is_kind : List ℕ → Bool
+is_kind word = is_some (elimination_of word)
+
+-- Whether words, by their bytes, may be a command with words that are kept in lists, as far as that is told without a
+-- look at a list: a search of a size in range, or a positional score with an eliminator. No other words take memory.
+abbrev pub is_listed : List (List ℕ) → Bool
+is_listed [] = false
+is_listed (name ∷ []) = false
+is_listed (name ∷ first ∷ []) = false
+is_listed (name ∷ first ∷ second ∷ []) = bytes_eq name (codes "synth") && is_size first
+is_listed (name ∷ first ∷ second ∷ third ∷ []) =
+    (bytes_eq name (codes "synth") && is_size first) || (bytes_eq name (codes "position") && is_kind second)
+is_listed (name ∷ first ∷ second ∷ third ∷ fourth ∷ rest) = false
+
+-- the same of words of the code
 abbrev pub are_listed : {Z : Type 0} → List (String Z) → Bool
-are_listed [] = false
-are_listed (name ∷ rest) = is_listed (string_bytes name)
+are_listed words = is_listed (map string_bytes words)
 
 -- a command of the code, which borrows its names
 abbrev pub command_seen : Borrowed → Command

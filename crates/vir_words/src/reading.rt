@@ -1,11 +1,10 @@
 // The words of the command line, read.
-ghost use Rattle.std.specs.Prelude.{◌≡◌, IfOk, IfSome, IsTrue, OnErr, Some, option_map};
+ghost use Rattle.std.specs.Prelude.{◌≡◌, [], ◌∷◌, IfOk, IfSome, IsTrue, OnErr, Some, option_map};
 ghost use Rattle.vir_words.specs.Command.{IsInRange, are_listed, command_in, command_of_five, command_of_one};
-ghost use Rattle.vir_words.specs.Command.{command_of_three, command_of_two, command_seen};
-ghost use Rattle.vir_words.specs.Command.{drill_words, is_listed, position_of};
-ghost use Rattle.vir_words.specs.Command.{prove_of, synth_words};
-ghost use Rattle.vir_words.specs.WordLeaves.{leaves_of};
-ghost use Rattle.vir_words.specs.WordProps.{prop_of};
+ghost use Rattle.vir_words.specs.Command.{command_of_three, command_of_two, command_seen, drill_words, is_kind};
+ghost use Rattle.vir_words.specs.Command.{is_listed, is_size, position_of, prove_of, synth_of, synth_words};
+ghost use Rattle.vir_words.specs.WordLeaves.{default_leaves, leaves_of};
+ghost use Rattle.vir_words.specs.WordProps.{prop_of, props_of};
 ghost use Rattle.vir_words.specs.WordWeights.{elimination_of, weights_of};
 
 use crate::command::{Command, ProfileWork, RuleProfileWork, RuleWork};
@@ -55,27 +54,65 @@ fn read_prove<'a>(rule: &'a str, prop: &str) -> Option<Command<'a>>
     })
 }
 
-// The command `synth` of these modules, of the size and the properties that these words are.
+// The command `synth` of this size, of these modules, and of the properties that the word is.
 fn read_synth<'a>(
     alloc: Global,
-    size: &str,
+    size: u32,
     props: &str,
     leaves: Vec<Leaf>,
 ) -> Result<Option<Command<'a>>, AllocError>
     ensures { IfOk result (λ found. option_map command_seen found
-        ≡ synth_words size.now props.now (Some leaves.items)) }
+        ≡ synth_of (Some size) (props_of props.now) (Some leaves.items)) }
 {
-    let Some(size) = word_number(size, 1, SIZE_LIMIT) else {
-        return Ok(None);
-    };
     match word_props(alloc, props) {
         Ok(Some(props)) => Ok(Some(Command::Synth {
-            size: size as u32,
+            size,
             props,
             leaves,
         })),
         Ok(None) => Ok(None),
         Err(e) => Err(e),
+    }
+}
+
+// The command `synth` of the size and the properties that these words are, of the modules that are taken where no word
+// names any.
+fn read_synth_of_defaults<'a>(
+    alloc: Global,
+    size: &str,
+    props: &str,
+) -> Result<Option<Command<'a>>, AllocError>
+    ensures command { IfOk result (λ found. option_map command_seen found
+        ≡ synth_words size.now props.now (Some default_leaves)) }
+    ensures memory { OnErr result (IsTrue (is_size size.now)) }
+{
+    match word_number(size, 1, SIZE_LIMIT) {
+        None => Ok(None),
+        Some(size) => {
+            let leaves = default_leaves(alloc)?;
+            read_synth(alloc, size as u32, props, leaves)
+        }
+    }
+}
+
+// The command `synth` of the size, the properties and the modules that these words are.
+fn read_synth_of<'a>(
+    alloc: Global,
+    size: &str,
+    props: &str,
+    leaves: &str,
+) -> Result<Option<Command<'a>>, AllocError>
+    ensures command { IfOk result (λ found. option_map command_seen found
+        ≡ synth_words size.now props.now (leaves_of leaves.now)) }
+    ensures memory { OnErr result (IsTrue (is_size size.now)) }
+{
+    match word_number(size, 1, SIZE_LIMIT) {
+        None => Ok(None),
+        Some(size) => match word_leaves(alloc, leaves) {
+            Ok(Some(leaves)) => read_synth(alloc, size as u32, props, leaves),
+            Ok(None) => Ok(None),
+            Err(e) => Err(e),
+        },
     }
 }
 
@@ -99,8 +136,9 @@ fn read_position<'a>(
     kind: &str,
     profile: &'a str,
 ) -> Result<Option<Command<'a>>, AllocError>
-    ensures { IfOk result (λ found. option_map command_seen found ≡ position_of (weights_of weights.now)
+    ensures command { IfOk result (λ found. option_map command_seen found ≡ position_of (weights_of weights.now)
         (elimination_of kind.now) profile.now) }
+    ensures memory { OnErr result (IsTrue (is_kind kind.now)) }
 {
     let Some(kind) = read_elimination(kind) else {
         return Ok(None);
@@ -146,7 +184,7 @@ fn read_two<'a>(
 ) -> Result<Option<Command<'a>>, AllocError>
     ensures command { IfOk result (λ found.
         option_map command_seen found ≡ command_of_two name.now first.now second.now) }
-    ensures memory { OnErr result (IsTrue (is_listed name.now)) }
+    ensures memory { OnErr result (IsTrue (is_listed (name.now ∷ first.now ∷ second.now ∷ []))) }
 {
     match name {
         "count" => Ok(Some(Command::OnRuleAndProfile {
@@ -160,10 +198,7 @@ fn read_two<'a>(
             work: RuleProfileWork::Report,
         })),
         "prove" => Ok(read_prove(first, second)),
-        "synth" => {
-            let leaves = default_leaves(alloc)?;
-            read_synth(alloc, first, second, leaves)
-        }
+        "synth" => read_synth_of_defaults(alloc, first, second),
         "batch" => Ok(Some(Command::Batch {
             rule: first,
             manifest: second,
@@ -177,23 +212,6 @@ fn read_two<'a>(
     }
 }
 
-// The command `synth` of the modules that the last word is.
-fn read_synth_of<'a>(
-    alloc: Global,
-    size: &str,
-    props: &str,
-    leaves: &str,
-) -> Result<Option<Command<'a>>, AllocError>
-    ensures { IfOk result (λ found. option_map command_seen found
-        ≡ synth_words size.now props.now (leaves_of leaves.now)) }
-{
-    match word_leaves(alloc, leaves) {
-        Ok(Some(leaves)) => read_synth(alloc, size, props, leaves),
-        Ok(None) => Ok(None),
-        Err(e) => Err(e),
-    }
-}
-
 // The command of this name on three words.
 fn read_three<'a>(
     alloc: Global,
@@ -204,7 +222,7 @@ fn read_three<'a>(
 ) -> Result<Option<Command<'a>>, AllocError>
     ensures command { IfOk result (λ found. option_map command_seen found
         ≡ command_of_three name.now first.now second.now third.now) }
-    ensures memory { OnErr result (IsTrue (is_listed name.now)) }
+    ensures memory { OnErr result (IsTrue (is_listed (name.now ∷ first.now ∷ second.now ∷ third.now ∷ []))) }
 {
     match name {
         "synth" => read_synth_of(alloc, first, second, third),
@@ -233,9 +251,9 @@ fn read_five<'a>(
     }
 }
 
-/// The command that the words are; None exactly where they are no command. Words that are kept in a list
-/// take memory to be read, so it can be wanting before it is known whether they are a command: this is so
-/// of `synth` and `position` alone.
+/// The command that the words are; None exactly where they are no command. Words that are kept in a list take memory to
+/// be read, so it can be wanting before it is known whether they are a command: this is so of `synth` with a size in
+/// range and of `position` with an eliminator alone. What is wrong without a look at a list is told without memory.
 pub fn read_words(alloc: Global, words: &[String]) -> Result<Option<Command<'_>>, AllocError>
     ensures command { IfOk result (λ command. option_map command_seen command ≡ command_in words.now) }
     ensures range { IfOk result (λ command. IfSome command (λ c. IsInRange (command_seen c))) }
