@@ -29,11 +29,12 @@ read_children-loop-preserved t c =
     let tree = derivation_within c.args.text.now c.args.last c.args.room in
     let list = c.args.list.now in
     let l = c.loop in
+    let text = c.args.text.now in
     record {
       whole =
-          ap (λ trees. with_front trees (children c.args.text.now tree (length list - (c.loop.counter + 1))
+          ap (λ trees. with_front trees (children text tree (length list - (l.counter + 1))
           (drop (c.in-Ok.child.next + 1) list))) c.in_ok-push.ensures.ok
-          ∙ continues c.args.text.now CloseParenthesis tree list _ (rule_trees l.children) l.counter l.at c.loop-test.true
+          ∙ continues text CloseParenthesis tree list _ (rule_trees l.children) l.counter l.at c.loop-test.true
           c.loop.invariant.whole (rule_tree c.in-Ok.child.derivation) (drop c.in-Ok.child.next list)
           c.in-Ok.ensures.tree
           (drop (c.in-Ok.child.next + 1) list) (rw c.in-Ok-Comma.field-0-is at c.in-Ok-Comma.ensures.exact);
