@@ -1,4 +1,5 @@
 -- Two neighbours change names.
+-- (The program's promises don't stand on this file.)
 use Rattle.std.specs.Prelude.{ℕ, suc, nat_eq, if◌then◌else◌}
 
 -- the name that i and the next number give each other, and all others keep
