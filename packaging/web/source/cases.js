@@ -41,7 +41,8 @@ class Case {
     const head = ballots.lines.map(({ count }, i) => element('th', { scope: 'col' },
       `${count} ${count === '1' ? 'voter' : 'voters'}`, i === changed ? ' ◀' : ''));
     const rows = Array.from({ length: ballots.alternatives }, (_, place) => element('tr', {},
-      element('th', { scope: 'row' }, `${place + 1}.`), ballots.lines.map(({ order }, i) => this.cell(order, place, i))));
+      element('th', { scope: 'row' }, `${place + 1}.`),
+      ballots.lines.map(({ order }, i) => this.cell(order, place, i))));
     return element('div', { class: 'wide', tabindex: '0', role: 'group', 'aria-label': 'Ballots' },
       element('table', { class: 'ballots' },
         element('thead', {}, element('tr', {}, element('td', {}, ''), head)), element('tbody', {}, rows)));
