@@ -13,13 +13,15 @@ from .places import TOP, profile, rule
 UNFOLDED = ("el", "mono", "dcc")
 WIDTH = 900
 
-END_OF_FINDINGS = "Math.ceil([...document.querySelectorAll('.findings')].at(-1).getBoundingClientRect().bottom + scrollY) + 16"
+LAST = "[...document.querySelectorAll('.findings')].at(-1)"
+END_OF_FINDINGS = f"Math.ceil({LAST}.getBoundingClientRect().bottom + scrollY) + 16"
 
 
 def main() -> None:
     with tempfile.TemporaryDirectory() as room, Chromium() as browser:
         path = Path(room, "report.html")
-        path.write_text(virage.page(virage.report(rule("copeland"), profile("five-ways")), name="copeland"), encoding="utf-8")
+        report = virage.report(rule("copeland"), profile("five-ways"))
+        path.write_text(virage.page(report, name="copeland"), encoding="utf-8")
         browser.open(str(path))
         browser.resize(WIDTH)
         browser.dark(False)

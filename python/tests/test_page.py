@@ -16,8 +16,8 @@ from .places import EXPECTED, RULES, TOP, profile, rule
 
 VOID = {"meta", "wbr"}
 ELEMENTS = VOID | set(
-    "html head title style body header main footer section nav div h1 h2 h3 h4 p span code pre ul li bdi table thead tbody"
-    " tr th td caption a details summary dl dt dd em strong b svg rect".split()
+    "html head title style body header main footer section nav div h1 h2 h3 h4 p span code pre ul li bdi"
+    " table thead tbody tr th td caption a details summary dl dt dd em strong b svg rect".split()
 )
 ATTRIBUTES = set(
     "lang charset http-equiv content name class id href role scope tabindex aria-labelledby aria-label aria-hidden"
