@@ -563,6 +563,22 @@ class Uses(unittest.TestCase):
                 f'element("div", {{}}, drawPairs(readPairs({json.dumps(path.read_text())}))).textContent')
             self.assertEqual(drawn, text_of(account_pages.duels(told)), path.name)
 
+    def test_facts_are_said_as_on_the_page_of_a_report(self):
+        for path in sorted((TOP / 'examples/rules').glob('*.vir')):
+            for profile in sorted((TOP / 'examples/profiles').glob('*.soc')):
+                files = {'p': profile.read_text(), 'r': path.read_text()}
+                report, told = (self.page.call([word, 'r', 'p'], files)[1] for word in ('report', 'explain'))
+                pairs = self.page.call(['pairs', 'p'], {'p': files['p']})[1]
+                read = virage.read_report(report)
+                said = account_pages.facts(
+                    read.result, read.voters, virage.read_explanation(told), virage.read_pairs(pairs))
+                given = ', '.join(json.dumps(text.decode()) for text in (report, pairs, told))
+                drawn = self.page.value(
+                    '((first, second, third) => { const report = readReport(first); return drawFacts(report, '
+                    'readPairs(second), accountOf(readVisits(third), report.term)).map((it) => it.textContent)'
+                    f'.join(""); }})({given})')
+                self.assertEqual(drawn, text_of(said), (path.stem, profile.stem))
+
 
 def text_of(parts):
     """What parts of a page say, without the markup."""
