@@ -13,20 +13,21 @@ from .places import TOP, profile, rule
 UNFOLDED = ("el", "mono", "dcc")
 WIDTH = 900
 
-END_OF_TABLE = "Math.ceil(document.querySelector('table').getBoundingClientRect().bottom + scrollY) + 16"
+LAST = "[...document.querySelectorAll('.findings')].at(-1)"
+END_OF_FINDINGS = f"Math.ceil({LAST}.getBoundingClientRect().bottom + scrollY) + 16"
 
 
 def main() -> None:
     with tempfile.TemporaryDirectory() as room, Chromium() as browser:
         path = Path(room, "report.html")
-        path.write_text(virage.page(virage.report(rule("copeland"), profile("five-ways"))), encoding="utf-8")
+        report = virage.report(rule("copeland"), profile("five-ways"))
+        path.write_text(virage.page(report, name="copeland"), encoding="utf-8")
         browser.open(str(path))
         browser.resize(WIDTH)
         browser.dark(False)
         for word in UNFOLDED:
-            row = f"document.querySelector('tbody th a[href=\"#property-{word}\"]').closest('tr')"
-            browser.value(f"{row}.querySelector('details').open = true")
-        clip = {"x": 0, "y": 0, "width": WIDTH, "height": browser.value(END_OF_TABLE), "scale": 1}
+            browser.value(f"document.querySelector('[data-property={word}] details').open = true")
+        clip = {"x": 0, "y": 0, "width": WIDTH, "height": browser.value(END_OF_FINDINGS), "scale": 1}
         taken = browser.send("Page.captureScreenshot", format="png", captureBeyondViewport=True, clip=clip)
         (TOP / "docs" / "report-page.png").write_bytes(base64.b64decode(taken["data"]))
 

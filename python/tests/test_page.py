@@ -1,6 +1,7 @@
 """The page of a report, as markup. No browser is called."""
 
 import itertools
+import re
 import subprocess
 import unittest
 from html.parser import HTMLParser
@@ -15,12 +16,12 @@ from .places import EXPECTED, RULES, TOP, profile, rule
 
 VOID = {"meta", "wbr"}
 ELEMENTS = VOID | set(
-    "html head title style body header main footer section div h1 h2 h3 h4 p span code pre ul li bdi table thead tbody"
-    " tr th td caption a details summary dl dt dd em strong svg rect".split()
+    "html head title style body header main footer section nav div h1 h2 h3 h4 p span code pre ul li bdi"
+    " table thead tbody tr th td caption a details summary dl dt dd em strong b svg rect".split()
 )
 ATTRIBUTES = set(
     "lang charset http-equiv content name class id href role scope tabindex aria-labelledby aria-label aria-hidden"
-    " open viewbox preserveaspectratio x y width height".split()
+    " open viewbox preserveaspectratio x y width height data-property".split()
 )
 
 
@@ -123,6 +124,27 @@ class Command(unittest.TestCase):
             said = Reader(ended.stdout.decode()).said
             self.assertEqual([title in said for title in titles], list(some))
 
+    def test_the_page_is_headed_by_the_name_of_the_rule(self) -> None:
+        text = (EXPECTED / "report.instant-runoff.divided").read_bytes()
+        ended = self._run(text, str(rule("instant-runoff")))
+        self.assertEqual((ended.returncode, ended.stderr), (0, b""))
+        self.assertIn(b"<h1>instant-runoff</h1><p><code>seq(", ended.stdout)
+        self.assertIn(b"<h1>Report on a voting rule</h1>", self._run(text).stdout)
+        self.assertEqual(self._run(text, "no-such-file.vir").returncode, 1)
+
+    def test_the_parts_are_listed_and_long_ones_are_folded(self) -> None:
+        votes = profile("five-ways")
+        explained, pairs = virage.explain(rule("instant-runoff"), votes), virage.pairs(votes)
+        read_votes = virage.Profile.read(Path(votes).read_bytes())
+        made = page(virage.report(rule("instant-runoff"), votes), explained, pairs, read_votes)
+        titles = [title for _, title in re.findall(r'<li><a href="#([a-z]*)">([^<]*)</a></li>', made)]
+        self.assertEqual(titles[:4], ["Who is elected", "How the result came about", "Who is preferred to whom",
+                                      "The ballots"])
+        self.assertIn("<details><summary>Properties and rules of derivation</summary>", made)
+        said = "".join(Reader(made).said)
+        self.assertIn("5 a pool wins against each other alternative in a duel", said)
+        self.assertIn("isn't elected: it goes in round 1.", said)
+
     def test_without_a_report(self) -> None:
         whole = (EXPECTED / "report.copeland.board").read_bytes()
         cut = b"\n".join(whole.split(b"\n")[:-2]) + b"\n"
@@ -131,8 +153,9 @@ class Command(unittest.TestCase):
             self.assertEqual((ended.returncode, ended.stdout), (1, b""))
             self.assertRegex(ended.stderr.decode(), r"\Areport-page: .*\n\Z")
 
-    def _run(self, text: bytes) -> "subprocess.CompletedProcess[bytes]":
-        return subprocess.run([str(TOP / "pages" / "report-page")], input=text, capture_output=True, check=False)
+    def _run(self, text: bytes, *words: str) -> "subprocess.CompletedProcess[bytes]":
+        call = [str(TOP / "pages" / "report-page"), *words]
+        return subprocess.run(call, input=text, capture_output=True, check=False)
 
 
 if __name__ == "__main__":

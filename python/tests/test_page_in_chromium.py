@@ -12,7 +12,7 @@ from .chromium import BROWSER, Chromium
 from .places import RULES, profile
 
 # the derivation that is unfolded first, and what is seen of its nodes
-FIRST = "document.querySelector('tr.holds details')"
+FIRST = "document.querySelector('.always details')"
 SEEN = "[...{}.querySelectorAll('.node')].filter(node => node.checkVisibility()).map(node => node.innerText)"
 TOO_WIDE = "document.documentElement.scrollWidth > innerWidth"
 
@@ -56,10 +56,18 @@ class Pages(unittest.TestCase):
             self.assertEqual(self.seen(FIRST), [], "it is folded at first")
             self.unfold_by_keys()
             for i, derivation in enumerate(report.holds.values()):
-                details = f"document.querySelectorAll('tr.holds details')[{i}]"
+                details = f"document.querySelectorAll('.always details')[{i}]"
                 self.browser.value(f"{details}.open = true")
                 nodes = [f"{node.judgement} by {node.rule}" for node in derivation.preorder()]
                 self.assertEqual(self.seen(details), nodes, path)
+
+    def test_it_is_short_and_a_link_unfolds_what_a_word_means(self) -> None:
+        self.open(virage.report(RULES[0], profile("board")))
+        self.browser.resize(900)
+        self.assertLess(self.browser.value("document.documentElement.scrollHeight"), 3000)
+        self.browser.value(f"{FIRST}.open = true")
+        self.browser.value(f"{FIRST}.querySelector('a').click()")
+        self.assertTrue(self.browser.value("document.querySelector(':target').checkVisibility()"))
 
     def test_widths_and_colours(self) -> None:
         for report in (virage.report(RULES[-1], profile("five-ways")), self._deepest(), hostile.report()):
@@ -97,9 +105,9 @@ class Pages(unittest.TestCase):
         self.browser.resize(320)
         nodes = self.browser.send("Accessibility.getFullAXTree")["nodes"]
         roles = [node.get("role", {}).get("value") for node in nodes]
-        self.assertEqual((roles.count("table"), roles.count("rowheader"), roles.count("columnheader")), (1, 18, 3))
-        self.assertGreater(roles.count("list"), 0)
-        self.assertGreater(roles.count("DisclosureTriangle"), 10)
+        self.assertEqual(roles.count("navigation"), 1)
+        self.assertGreater(roles.count("list"), 2)
+        self.assertEqual(roles.count("DisclosureTriangle"), 20, "18 properties, the words, and the report as printed")
 
     def _deepest(self) -> virage.Report:
         term = "elect"

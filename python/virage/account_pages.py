@@ -44,7 +44,7 @@ def _all_told(numbers: Iterable[int], names: Mapping[int, str]) -> Markup:
 
 
 def facts(result: Result, voters: int, explanation: Optional[Explanation], pairs: Optional[Pairs]) -> Iterable[Markup]:
-    """What is to be known of a result besides the three sets: that nobody voted, a tie, a Condorcet winner who loses."""
+    """What is to be known of a result besides the sets: that nobody voted, a tie, a Condorcet winner who loses."""
     if voters == 0:
         yield element("p", "Nobody voted, so that no opinion stands behind this result.", class_="fact")
     if len(result.elected) > 1:

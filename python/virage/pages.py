@@ -246,7 +246,8 @@ def _rule(term: Term) -> Markup:
 
 
 def _part(term: Term) -> Markup:
-    told = joined(term_code(term.head(*("…" for _ in term.parts))), " ", element("span", _gloss(term), class_="gloss"))
+    head = term_code(term.head(*("…" for _ in term.parts)))
+    told = joined(head, " ", element("span", _gloss(term), class_="gloss"))
     return _node(told, [_part(part) for part in term.parts])
 
 
@@ -270,7 +271,8 @@ def _properties(findings: Mapping[str, Finding]) -> Iterable[Markup]:
     """The properties, grouped by what is found of each."""
     always = [found for found in findings.values() if isinstance(found, Holds)]
     open_ = [found for found in findings.values() if isinstance(found, Underived)]
-    yield element("p", f"Of {len(findings)} properties {len(always)} are always true of this rule. {len(open_)} are open.")
+    counted = f"Of {len(findings)} properties {len(always)} are always true of this rule. {len(open_)} are open."
+    yield element("p", counted)
     yield from _group("always", "Always", _ALWAYS, always)
     yield from _group("open", "Open", _OPEN, open_)
 
@@ -314,7 +316,8 @@ def why(found: Finding) -> Iterable[Markup]:
 
 def _derivation(property_: str, derivation: Derivation) -> Iterable[Markup]:
     steps = _number(derivation.size, "step")
-    yield element("p", _property_link(property_), f" is derived in {steps}, the last one by ", _rule_link(derivation.rule))
+    told = f" is derived in {steps}, the last one by "
+    yield element("p", _property_link(property_), told, _rule_link(derivation.rule))
     yield _derived_tree(derivation)
 
 

@@ -12,7 +12,8 @@ class Case {
     const { shown, before, behind } = this;
     const parts = [this.half(before, shown.first, 'On these ballots the rule ', 'Load these ballots')];
     if (behind) {
-      const said = ['When ', element('strong', {}, shown.alternative), ' gets more support from the marked voters, it '];
+      const raised = element('strong', {}, shown.alternative);
+      const said = ['When ', raised, ' gets more support from the marked voters, it '];
       parts.push(this.half(behind, shown.second, said, 'Load the second'));
     }
     return element('div', { class: 'case' }, parts);
@@ -29,7 +30,8 @@ class Case {
   async count(text) {
     const files = [['rule', this.rule], ['ballots', text]];
     const answer = await this.engine.call(['count', 'rule', 'ballots'], files).catch(() => null);
-    return answer && answer.status === 0 ? splitSaid(readSplit(new Lines(decoder.decode(answer.out)))) : 'isn\'t counted';
+    if (!answer || answer.status !== 0) return 'isn\'t counted';
+    return splitSaid(readSplit(new Lines(decoder.decode(answer.out))));
   }
 
   // The lines as columns, the most preferred on top. The changed line and who is raised in it are marked.
@@ -41,7 +43,8 @@ class Case {
     const head = ballots.lines.map(({ count }, i) => element('th', { scope: 'col' },
       `${count} ${count === '1' ? 'voter' : 'voters'}`, i === changed ? ' ◀' : ''));
     const rows = Array.from({ length: ballots.alternatives }, (_, place) => element('tr', {},
-      element('th', { scope: 'row' }, `${place + 1}.`), ballots.lines.map(({ order }, i) => this.cell(order, place, i))));
+      element('th', { scope: 'row' }, `${place + 1}.`),
+      ballots.lines.map(({ order }, i) => this.cell(order, place, i))));
     return element('div', { class: 'wide', tabindex: '0', role: 'group', 'aria-label': 'Ballots' },
       element('table', { class: 'ballots' },
         element('thead', {}, element('tr', {}, element('td', {}, ''), head)), element('tbody', {}, rows)));

@@ -9,10 +9,11 @@ function factsOf({ split, voters, names }, pairs, account) {
   if (together > 1) {
     said.push(`${together.toLocaleString('en')} are elected together: this rule doesn't choose among them.`);
   }
-  const winner = pairs && pairs.winner !== 'none' ? Number(pairs.winner) : null;
+  const winner = pairs && pairs.winner && pairs.winner !== 'none' ? Number(pairs.winner) : null;
   if (winner !== null && !(together === 1 && split.elected[0] === winner)) {
     said.push([element('strong', {}, toldAlternative(winner, names)),
-      ' wins against each other alternative in a duel (it is the Condorcet winner)', fateOf(winner, split, account), '.']);
+      ' wins against each other alternative in a duel (it is the Condorcet winner)',
+      fateOf(winner, split, account), '.']);
   }
   return said;
 }

@@ -32,6 +32,8 @@ class Findings {
   // `engine` counts, `searcher` looks for cases, and `load` is called with ballots that the reader wants to have.
   constructor(place, engine, searcher, load) {
     Object.assign(this, { place, engine, searcher, load, report: null, rule: '', cases: new Map(), seed: 1 });
+    // where it is told what comes of looking for cases against all that is open; it stays while lines are drawn anew
+    this.told = element('div', { class: 'search', 'aria-live': 'polite' });
   }
 
   // Draws the findings of a report, where its rule is another one than that of the last.
@@ -39,6 +41,7 @@ class Findings {
     if (this.report && report.rule === this.report.rule) return;
     this.searcher.stop();
     Object.assign(this, { report, rule, cases: new Map() });
+    fill(this.told);
     this.draw();
   }
 
@@ -49,6 +52,7 @@ class Findings {
   }
 
   draw() {
+    const held = this.place.contains(document.activeElement) ? document.activeElement : null;
     const unfolded = [...this.place.querySelectorAll('.finding > details[open]')].map((it) => (
       it.parentElement.dataset.property));
     const { all } = this;
@@ -58,6 +62,15 @@ class Findings {
       const line = this.lineOf(property);
       if (line) line.firstChild.open = true;
     }
+    if (held) this.holdLike(held);
+  }
+
+  // Gives the focus to what stands where this stood before all was drawn anew.
+  holdLike(held) {
+    const line = held.closest('.finding');
+    const again = line && this.lineOf(line.dataset.property);
+    if (again) again.querySelector('summary').focus();
+    else (this.place.querySelector('.look-all') || this.place.querySelector('summary')).focus({ preventScroll: true });
   }
 
   head(all) {
@@ -106,21 +119,24 @@ class Findings {
   looking(members) {
     const wanted = members.map((it) => it.property).filter((property) => property !== 'neut');
     if (!wanted.length) return [];
-    const place = element('div', { class: 'search', 'aria-live': 'polite' });
     const button = element('button', {
-      type: 'button', class: 'look-all', onclick: () => this.lookAll(wanted, place) }, 'Look for cases against these');
-    return [element('p', { class: 'row' }, button), place];
+      type: 'button', class: 'look-all', onclick: () => this.lookAll(wanted) }, 'Look for cases against these');
+    return [element('p', { class: 'row' }, button), this.told];
   }
 
-  async lookAll(wanted, place) {
+  async lookAll(wanted) {
     const { report } = this;
     for (const property of wanted) {
       if (this.cases.has(property)) continue;
-      const ended = await this.look(property, at('looked') || place);
+      const ended = await this.look(property, this.told);
       if (ended || this.report !== report) return;
     }
     const open = this.all.filter((it) => it.answer === 'open').length;
-    say(`The search is done. ${open} are open.`);
+    const still = open === 1 ? 'one is' : `${open} are`;
+    const done = open === 0 ? 'The search is done: there is a case against each.'
+      : `The search is done: ${still} still open. That no case came up proves nothing.`;
+    fill(this.told, done);
+    say(done);
   }
 
   lookingFor(property) {

@@ -81,7 +81,8 @@ function drawGraph(pairs) {
   const picture = drawing('svg', { viewBox: `0 0 ${GRAPH.size} ${GRAPH.size}`, role: 'img', 'aria-label': `${told}.` },
     duels.map((duel) => drawArrow(duel, places)),
     places.map((place, i) => drawPlace(place, i + 1, winner === String(i + 1))),
-    duels.map(({ margin }, i) => drawing('text', { x: margins[i].x, y: margins[i].y + 5 }, margin.toLocaleString('en'))));
+    duels.map(({ margin }, i) => (
+      drawing('text', { x: margins[i].x, y: margins[i].y + 5 }, margin.toLocaleString('en')))));
   const caption = ['An arrow leads from the winner of a duel to the loser, and has the margin.',
     duels.some(({ margin }) => margin === 0n) ? ' A dashed line is a tie.' : '',
     winner === 'none' ? '' : ` The Condorcet winner, ${winner}, has two rings.`];

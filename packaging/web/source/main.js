@@ -172,7 +172,8 @@ class Workbench {
     tellStale(status !== 0);
     const said = { 0: '', 3: '', 4: '', 7: 'There is too little memory for this. ' };
     const why = status in said ? said[status] : `${decoder.decode(err)} `;
-    at('state').textContent = status === 0 ? '' : `${why}${isAnswered ? 'Below is the last good answer.' : 'No answer yet.'}`;
+    const below = isAnswered ? 'Below is the last good answer.' : 'No answer yet.';
+    at('state').textContent = status === 0 ? '' : why + below;
   }
 
   // Where the rule is refused the program doesn't look at the ballots: so they are judged by themselves.

@@ -23,7 +23,8 @@ function drawSet(word, members, names) {
   return element('div', { class: word.toLowerCase() },
     element('h3', {}, `${word} `, element('span', { class: 'count' }, members.length.toLocaleString('en'))),
     all.length ? element('ul', { role: 'list' }, all.slice(0, LISTED)) : element('p', {}, 'nobody'),
-    rest.length ? element('details', { class: 'more' }, andMore(rest.length), element('ul', { role: 'list' }, rest)) : []);
+    rest.length
+      ? element('details', { class: 'more' }, andMore(rest.length), element('ul', { role: 'list' }, rest)) : []);
 }
 
 // The three sets. One that is empty is told in a line, but for the first.

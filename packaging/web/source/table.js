@@ -79,7 +79,8 @@ class BallotTable {
     const chips = order.map((alternative, place) => this.chip(alternative, place, line));
     return element('li', {},
       element('input', {
-        class: 'voters', value: count, inputmode: 'numeric', pattern: '[0-9]+', 'data-key': `count-${line}`, tabindex: -1,
+        class: 'voters', value: count, inputmode: 'numeric', pattern: '[0-9]+', tabindex: -1,
+        'data-key': `count-${line}`,
         'aria-label': `How many voters cast ballot ${line + 1}`,
         onchange: (event) => this.recount(line, event.target) }),
       element('ol', { class: 'chips', role: 'listbox', 'aria-label': `Ballot ${line + 1}, the best first` }, chips),

@@ -21,6 +21,53 @@ from virage import account_pages, pages
 PAGE = ''
 FIVE_WAYS = (TOP / 'examples/profiles/five-ways.soc').read_text()
 RUNOFF = (TOP / 'examples/rules/instant-runoff.vir').read_text()
+# the example with a line in which an alternative is missing, and the number of that line
+SHORT_LINE = FIVE_WAYS.replace('10: 3,2,5,4,1\n', '10: 3,2,5,4\n')
+SHORT_PLACE = 12
+
+# whether the line of a box at a place is wholly in sight in it
+IN_SIGHT = '''(box, place) => {
+  const mirror = document.createElement('div');
+  mirror.className = 'mirror';
+  box.after(mirror);
+  mirror.style.width = `${box.clientWidth}px`;
+  const heightOf = (text) => {
+    mirror.textContent = text;
+    return mirror.getBoundingClientRect().height;
+  };
+  const line = heightOf('x\\nx') - heightOf('x');
+  const bottom = heightOf(`${box.value.slice(0, place)}x`) - box.scrollTop;
+  mirror.remove();
+  return bottom - line >= 0 && bottom <= box.clientHeight + line / 2;
+}'''
+
+# the least contrast of a text with what stands behind it, of all texts below an element that are seen
+LEAST_CONTRAST = '''(whole) => {
+  const parts = (color) => color.match(/[0-9.]+/g).map(Number);
+  const light = (color) => {
+    const [red, green, blue] = parts(color).slice(0, 3).map((it) => it / 255).map((it) => (
+      it <= 0.03928 ? it / 12.92 : ((it + 0.055) / 1.055) ** 2.4));
+    return 0.2126 * red + 0.7152 * green + 0.0722 * blue;
+  };
+  const ground = (it) => {
+    const { backgroundColor } = getComputedStyle(it);
+    return it.parentElement && parts(backgroundColor)[3] === 0 ? ground(it.parentElement) : backgroundColor;
+  };
+  const shown = [...whole.querySelectorAll('*')].filter((it) => !it.closest('svg') && it.checkVisibility()
+    && [...it.childNodes].some((part) => part.nodeType === Node.TEXT_NODE && part.data.trim()));
+  return Math.min(...shown.map((it) => {
+    const [dark, bright] = [light(getComputedStyle(it).color), light(ground(it))].sort((a, b) => a - b);
+    return (bright + 0.05) / (dark + 0.05);
+  }));
+}'''
+
+# has so many answers given one after another, of two rules and two profiles
+ANSWER_AGAIN = '''async (count, rules, ballots) => {
+  for (let i = 0; i < count; i++) {
+    workbench.load({ rule: rules[i % 2], ballots: ballots[i % 2] });
+    await workbench.settled;
+  }
+}'''
 
 
 class Uses(unittest.TestCase):
@@ -366,6 +413,106 @@ class Uses(unittest.TestCase):
         self.assertIn('64-bit memories', self.page.text('broken'))
         self.page.send('Page.removeScriptToEvaluateOnNewDocument', identifier=added['identifier'])
 
+    def test_the_definition_is_in_sight_on_a_phone(self):
+        self.page.resize(390, 844)
+        for path in sorted((TOP / 'examples/rules').glob('*.vir')):
+            self.page.choose('cookbook', self.index_of(path.stem))
+            self.page.settle()
+            box = 'document.getElementById("rule")'
+            self.assertTrue(self.page.value(f'({IN_SIGHT})({box}, lastDefinition({box}.value))'), path.stem)
+        self.page.resize(1400, 1000)
+
+    def test_a_fault_of_the_ballots_is_in_the_bar_and_in_sight(self):
+        for width in (1280, 390):
+            self.page.resize(width, 844)
+            self.page.begin(urllib.parse.urlencode({'rule': RUNOFF, 'ballots': SHORT_LINE}))
+            told = f'Line {SHORT_PLACE} of the ballots: An alternative is missing'
+            self.assertIn(told, self.page.text('bar'))
+            at_line = SHORT_LINE.index('10: 3,2,5,4\n')
+            box = 'document.getElementById("ballots")'
+            self.assertTrue(self.page.value(f'({IN_SIGHT})({box}, {at_line})'), width)
+            self.page.click('#ballots-told button')
+            self.assertEqual(self.page.value('document.activeElement.id'), 'ballots')
+            self.assertEqual(self.page.value(f'{box}.selectionStart'), at_line)
+        self.page.resize(1400, 1000)
+
+    def test_before_the_first_answer_there_is_none(self):
+        seen = ('[...document.querySelectorAll("#live, #certificate-part, #skip, #jump")]'
+                '.filter((it) => it.checkVisibility()).length')
+        self.page.begin(urllib.parse.urlencode({'rule': 'r = elekt;', 'ballots': FIVE_WAYS}))
+        self.assertIn('No answer yet.', self.page.text('bar'))
+        self.assertEqual(self.page.value(seen), 0)
+        self.page.type_into('#rule', 'r = elect;')
+        self.page.settle()
+        self.assertNotIn('No answer yet', self.page.text('bar'))
+        self.assertGreater(self.page.value(seen), 1)
+        self.page.type_into('#rule', 'r = elekt;')
+        self.page.settle()
+        self.assertIn('Below is the last good answer.', self.page.text('bar'))
+
+    def test_the_last_good_answer_can_be_read(self):
+        self.page.type_into('#rule', 'r = elekt;')
+        self.page.settle()
+        self.page.value('document.querySelectorAll("#live details").forEach((it) => it.open = true)')
+        for dark in (False, True):
+            self.page.dark(dark)
+            least = self.page.value(f'({LEAST_CONTRAST})(document.getElementById("live"))')
+            self.assertGreaterEqual(least, 4.5, f'dark: {dark}')
+        self.page.dark(False)
+
+    def facts(self, rule, ballots):
+        self.page.begin(urllib.parse.urlencode({'rule': rule, 'ballots': ballots}))
+        return self.page.all_said('#facts p')
+
+    def test_facts_are_joined_to_the_result(self):
+        duel = '5 a pool wins against each other alternative in a duel (it is the Condorcet winner)'
+        three = '# NUMBER ALTERNATIVES: 3\n'
+        together = "3 are elected together: this rule doesn't choose among them."
+        self.assertEqual(self.facts(RUNOFF, FIVE_WAYS), [f"{duel}, and isn't elected: it goes in round 1."])
+        self.assertEqual(self.facts('r = plurality;', FIVE_WAYS), [f"{duel}, and isn't elected."])
+        self.assertEqual(self.facts('r = defer;', FIVE_WAYS), [f"{duel}, and isn't elected but deferred."])
+        self.assertEqual(self.facts('r = seq(max(copeland), elect);', FIVE_WAYS), [])
+        self.assertEqual(self.facts('r = elect;', three + '1: 1,2,3\n'), [
+            together, f"1{duel[8:]}, and isn't elected alone."])
+        self.assertEqual(self.facts('r = elect;', three), [
+            'Nobody voted, so that no opinion stands behind this result.', together])
+
+    def test_of_many_the_first_ten_are_shown(self):
+        order = ','.join(map(str, range(24, 0, -1)))
+        self.facts('r = seq(max(borda), elect);', f'# NUMBER ALTERNATIVES: 24\n3: {order}\n')
+        self.assertEqual(self.page.said('#result .rejected summary'), 'and 13 more')
+        self.assertEqual(self.count('#result .rejected > ul > li'), 10)
+        scores = '#rounds .wide:has(.scores)'
+        self.assertEqual(self.page.said(f'{scores} > details > summary'), 'and 14 more')
+        shown = self.page.all_said(f'{scores} > table tbody th')
+        self.assertEqual(shown, [str(one) for one in range(24, 14, -1)], 'by their scores')
+
+    def test_a_name_from_right_to_left_stands_behind_its_number(self):
+        name = '\u05e9\u05dc\u05d5\u05dd'
+        self.facts('r = elect;', f'# NUMBER ALTERNATIVES: 1\n# ALTERNATIVE NAME 1: {name}\n2: 1\n')
+        self.assertEqual(self.page.said('#result .elected li'), f'1 {name}')
+        right_of = ('(() => { const box = (it) => document.querySelector(`#result .elected ${it}`)'
+                    '.getBoundingClientRect(); return box(".name").left - box(".number").right; })()')
+        self.assertGreater(self.page.value(right_of), 2, 'with a blank between them')
+
+    def memory(self):
+        """The bytes that the page's script holds, the nodes that the page has, and the bytes of the module."""
+        self.page.send('HeapProfiler.collectGarbage')
+        used = self.page.send('Runtime.getHeapUsage')['usedSize']
+        return used, self.page.send('Memory.getDOMCounters')['nodes'], self.page.value('workbench.times.memory')
+
+    def test_answers_leave_no_memory_behind(self):
+        copeland = (TOP / 'examples/rules/copeland.vir').read_text()
+        board = (TOP / 'examples/profiles/board.soc').read_text()
+        given = f'{json.dumps([RUNOFF, copeland])}, {json.dumps([FIVE_WAYS, board])}'
+        kept = []
+        for count in (50, 200):
+            for _ in range(count // 50):
+                self.page.awaited(f'({ANSWER_AGAIN})(50, {given})')
+            kept.append(self.memory())
+        for early, late in zip(*kept):
+            self.assertLessEqual(late, 1.2 * early, kept)
+
     def test_no_width_is_too_small(self):
         for width in (320, 800, 1400):
             self.page.resize(width)
@@ -415,6 +562,22 @@ class Uses(unittest.TestCase):
             drawn = self.page.value(
                 f'element("div", {{}}, drawPairs(readPairs({json.dumps(path.read_text())}))).textContent')
             self.assertEqual(drawn, text_of(account_pages.duels(told)), path.name)
+
+    def test_facts_are_said_as_on_the_page_of_a_report(self):
+        for path in sorted((TOP / 'examples/rules').glob('*.vir')):
+            for profile in sorted((TOP / 'examples/profiles').glob('*.soc')):
+                files = {'p': profile.read_text(), 'r': path.read_text()}
+                report, told = (self.page.call([word, 'r', 'p'], files)[1] for word in ('report', 'explain'))
+                pairs = self.page.call(['pairs', 'p'], {'p': files['p']})[1]
+                read = virage.read_report(report)
+                said = account_pages.facts(
+                    read.result, read.voters, virage.read_explanation(told), virage.read_pairs(pairs))
+                given = ', '.join(json.dumps(text.decode()) for text in (report, pairs, told))
+                drawn = self.page.value(
+                    '((first, second, third) => { const report = readReport(first); return drawFacts(report, '
+                    'readPairs(second), accountOf(readVisits(third), report.term)).map((it) => it.textContent)'
+                    f'.join(""); }})({given})')
+                self.assertEqual(drawn, text_of(said), (path.stem, profile.stem))
 
 
 def text_of(parts):
