@@ -1,4 +1,4 @@
-# Completion of virage's words for bash: commands, files by their endings, properties. Made by help/page.
+# Completion of the words of virage and virage-convert for bash: commands, files by their endings, properties. Made by help/page.
 @TABLES@
 
 # Offers files that end in .$1, and folders; with none of them bash goes on to other files.
@@ -22,6 +22,18 @@ _virage_parts() {
   compopt -o filenames
 }
 
+# Offers the options of virage-convert, what is chosen behind one, and files, whatever their endings.
+_virage_convert() {
+  local word=${COMP_WORDS[COMP_CWORD]} values=${_virage_options[${COMP_WORDS[COMP_CWORD - 1]}]-}
+  COMPREPLY=()
+  compopt -o default
+  case $values in
+    '*.'*) word=${word//[\\\"\']/} && _virage_files "${values#'*.'}" ;;
+    ?*) mapfile -t COMPREPLY < <(compgen -W "$values" -- "$word") ;;
+    *) case $word in -*) mapfile -t COMPREPLY < <(compgen -W "${!_virage_options[*]}" -- "$word") ;; esac ;;
+  esac
+}
+
 _virage() {
   local word=${COMP_WORDS[COMP_CWORD]} command=${COMP_WORDS[1]} kind
   local -a form choices
@@ -29,7 +41,11 @@ _virage() {
   # (as it is meant, without the signs that quote it)
   word=${word//[\\\"\']/}
   if [ "$COMP_CWORD" -eq 1 ]; then
-    mapfile -t COMPREPLY < <(compgen -W "${!_virage_forms[*]} help --help --version" -- "$word")
+    mapfile -t COMPREPLY < <(compgen -W "${!_virage_forms[*]} convert help --help --version" -- "$word")
+    return
+  fi
+  if [ "$command" = convert ]; then
+    _virage_convert
     return
   fi
   case $command in '' | *[!a-z]*) return ;; esac
@@ -48,3 +64,4 @@ _virage() {
 }
 
 complete -o default -F _virage virage
+complete -o default -F _virage_convert virage-convert

@@ -1,9 +1,20 @@
-#compdef virage
-# Completion of virage's words for zsh: commands, files by their endings, properties. Made by help/page.
+#compdef virage virage-convert
+# Completion of the words of virage and virage-convert for zsh: commands, files by their endings, properties. Made by help/page.
 @TABLES@
 
 local kind
 local -a form
+if [[ $service = virage-convert || ( $words[2] = convert && CURRENT -gt 2 ) ]]; then
+  local values=$_virage_options[${words[CURRENT - 1]}]
+  if [[ -n $values && $values != '*.'* ]]; then
+    compadd -- ${=values}
+  elif [[ $PREFIX = -* ]]; then
+    compadd -- ${(k)_virage_options}
+  else
+    _files ${values:+-g} ${values:+$values}
+  fi
+  return
+fi
 if (( CURRENT == 2 )); then
   _describe command _virage_commands
   return

@@ -41,7 +41,8 @@ class _Words(argparse.ArgumentParser):
         raise SystemExit(_USAGE)
 
 
-def _parser() -> argparse.ArgumentParser:
+def words_of_a_call() -> argparse.ArgumentParser:
+    """What reads the words of a call."""
     # (the script `virage` says how it is called)
     called = os.environ.get("VIRAGE_CALLED") or "virage-convert"
     words = _Words(called, f"{called} FILE [OPTION..]", _ABOUT, _EXAMPLES.format(called=called), allow_abbrev=False,
@@ -142,7 +143,7 @@ def _said(line: str) -> None:
 
 def main(words: Optional[Sequence[str]] = None) -> int:
     """Converts the file that the words name, or those of the call, and gives the status."""
-    parser = _parser()
+    parser = words_of_a_call()
     given = parser.parse_args(words)
     try:
         layout, choices = _layout(given), _chosen(given)
