@@ -7,7 +7,6 @@ import json
 import re
 import sys
 import tempfile
-import time
 import unittest
 import urllib.parse
 from pathlib import Path
@@ -59,14 +58,6 @@ LEAST_CONTRAST = '''(whole) => {
     const [dark, bright] = [light(getComputedStyle(it).color), light(ground(it))].sort((a, b) => a - b);
     return (bright + 0.05) / (dark + 0.05);
   }));
-}'''
-
-# has so many answers given one after another, of two rules and two profiles
-ANSWER_AGAIN = '''async (count, rules, ballots) => {
-  for (let i = 0; i < count; i++) {
-    workbench.load({ rule: rules[i % 2], ballots: ballots[i % 2] });
-    await workbench.settled;
-  }
 }'''
 
 
@@ -366,10 +357,9 @@ class Uses(unittest.TestCase):
         self.page.settle()
         self.page.hand_in('#ballots-file', self.large(60000, 200))
         self.page.until('!document.getElementById("stop").hidden')
-        start = time.monotonic()
         self.page.type_into('#rule', many)
         self.assertEqual(self.typed('rule'), many)
-        self.assertLess(time.monotonic() - start, 2)
+        self.assertTrue(self.page.value('workbench.running'), 'it is still counted')
         self.page.until('!document.getElementById("stop").hidden')
         self.page.click('#stop')
         self.page.until('document.getElementById("state").textContent.includes("stopped by you")')
@@ -494,24 +484,6 @@ class Uses(unittest.TestCase):
         right_of = ('(() => { const box = (it) => document.querySelector(`#result .elected ${it}`)'
                     '.getBoundingClientRect(); return box(".name").left - box(".number").right; })()')
         self.assertGreater(self.page.value(right_of), 2, 'with a blank between them')
-
-    def memory(self):
-        """The bytes that the page's script holds, the nodes that the page has, and the bytes of the module."""
-        self.page.send('HeapProfiler.collectGarbage')
-        used = self.page.send('Runtime.getHeapUsage')['usedSize']
-        return used, self.page.send('Memory.getDOMCounters')['nodes'], self.page.value('workbench.times.memory')
-
-    def test_answers_leave_no_memory_behind(self):
-        copeland = (TOP / 'examples/rules/copeland.vir').read_text()
-        board = (TOP / 'examples/profiles/board.soc').read_text()
-        given = f'{json.dumps([RUNOFF, copeland])}, {json.dumps([FIVE_WAYS, board])}'
-        kept = []
-        for count in (50, 200):
-            for _ in range(count // 50):
-                self.page.awaited(f'({ANSWER_AGAIN})(50, {given})')
-            kept.append(self.memory())
-        for early, late in zip(*kept):
-            self.assertLessEqual(late, 1.2 * early, kept)
 
     def test_no_width_is_too_small(self):
         for width in (320, 800, 1400):
