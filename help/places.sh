@@ -207,7 +207,8 @@ wrong_in_line() {
     }' "$2"
 }
 
-# Prints what other ballots the file $2 looks like, which is refused for the kind $1, and words that it is converted with.
+# Prints what other ballots the file $2 looks like, which is refused for the kind $1, and words that it is converted
+# with.
 other_ballots() {
   local first
   case $1 in

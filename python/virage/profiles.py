@@ -240,7 +240,8 @@ class Files:
         _of_type(parameter, profile, what, collections.abc.Iterable)
         listed = Profile.of(profile)
         if listed.alternatives == 0:
-            raise ValueError(f"{parameter} has no votes: a list has a weight and an order at least, as [(3, [2, 1, 3])]")
+            raise ValueError(
+                f"{parameter} has no votes: a list has a weight and an order at least, as [(3, [2, 1, 3])]")
         return Given(self, name, None, listed.text())
 
     def manifest(self, listed: Sequence[Given]) -> Manifest:
@@ -297,7 +298,9 @@ def _missing(name: str, path: str) -> str:
     """That a string isn't the path of a file of this name, and what may be meant by it."""
     if name == RULE_FILE and re.fullmatch(r"[a-z]+", path):
         said = f'; "seq(max({path}),elect)" is a rule of this score' if path in SCORES else ""
-        return f"no such file; a term as a string, or text with a semicolon, is a rule that isn't read from a file{said}"
+        return (
+            "no such file; a term as a string, or text with a semicolon, is a rule that isn't read from a file"
+            f"{said}")
     if name == RULE_FILE and re.search(r"[()=[\]]", path) and not path.endswith(".vir") and os.sep not in path:
         return f"neither a file nor a term: {_wrong_term(path)}"
     if name != RULE_FILE and re.fullmatch(r"[0-9]+:[0-9, ]+", path):
