@@ -276,7 +276,7 @@ class Uses(unittest.TestCase):
         nodes = self.page.all_said('.finding[data-property=el] .node')
         self.assertEqual(nodes[0], 'el of seq(loop(1,min(plurality)),elect) by el-seq-second')
         self.page.click('.finding[data-property="el"] .by a')
-        self.assertEqual(self.page.value('document.activeElement.id'), 'rule-el-seq-second')
+        self.page.until('document.activeElement.id === "rule-el-seq-second"')
         self.assertIn('Why: ', self.page.value('document.activeElement.innerText'))
 
     def test_a_counterexample_is_looked_for_and_loaded(self):

@@ -79,12 +79,8 @@ class Workbench(Chromium):
         return self.value(f'document.getElementById({json.dumps(id_)}).innerText')
 
     def place(self, selector):
-        """The middle of an element in the window, after it was brought there."""
-        found = self.value(
-            f'(() => {{ const it = document.querySelector({json.dumps(selector)});'
-            'it.scrollIntoView({block: "center"});'
-            'const box = it.getBoundingClientRect(); return [box.x + box.width / 2, box.y + box.height / 2]; })()')
-        return tuple(found)
+        """The middle of an element in the window, once it was brought there and has stood still for two frames."""
+        return tuple(self.awaited(f'({STANDS_STILL})({json.dumps(selector)})'))
 
     def mouse(self, kind, x, y, **more):
         self.send('Input.dispatchMouseEvent', type=kind, x=x, y=y, **more)
@@ -180,6 +176,21 @@ UNTIL = '''(condition) => new Promise((done) => {
   observer.observe(document, { subtree: true, childList: true, attributes: true, characterData: true });
   look();
 })'''
+
+# where the middle of an element is, once it is the same after two frames
+STANDS_STILL = '''async (selector) => {
+  const frame = () => new Promise((done) => requestAnimationFrame(done));
+  let before = [];
+  for (;;) {
+    document.querySelector(selector).scrollIntoView({ block: 'center' });
+    await frame();
+    await frame();
+    const box = document.querySelector(selector).getBoundingClientRect();
+    const middle = [box.x + box.width / 2, box.y + box.height / 2];
+    if (middle[0] === before[0] && middle[1] === before[1]) return middle;
+    before = middle;
+  }
+}'''
 
 # answers cases in the page by its own worker
 ANSWER_ALL = '''async (cases) => {
